@@ -1,0 +1,6 @@
+pub mod Faults
+pub mod Inputs
+pub mod Texts
+pub mod Listings
+pub mod Reports
+pub mod Parts

@@ -1,0 +1,23 @@
+// Platforms: rails, units, pins, modes, mixes and their rules.
+mod build;
+mod check;
+pub mod fault;
+pub mod inquiry;
+pub mod make;
+pub mod parts;
+pub mod platform;
+pub mod read;
+pub mod rest;
+
+pub use fault::PlatformFault;
+pub use fault::PlatformFaultFromAlloc;
+pub use fault::PlatformFaultFromRefused;
+pub use fault::PlatformFaultFromSheet;
+pub use inquiry::Inquiry;
+pub use inquiry::read_inquiry;
+pub use parts::Bounds;
+pub use parts::Mix;
+pub use parts::Mode;
+pub use parts::Pin;
+pub use parts::Unit;
+pub use platform::Platform;

@@ -1,0 +1,4 @@
+pub mod Fields
+pub mod Kept
+pub mod Counts
+pub mod Readings

@@ -1,0 +1,4 @@
+pub mod Turns
+pub mod Kinds
+pub mod Reading
+pub mod Sets

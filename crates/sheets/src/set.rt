@@ -1,0 +1,16 @@
+// The rows of all four sheets of a board, whose type says that they keep their rules.
+ghost use Rattle.std.specs.Of.Vec.{vec-items};
+ghost use Rattle.sheets.specs.Reading.{Kept};
+use crate::rows::BoundRow;
+use crate::rows::Demand;
+use crate::rows::ModeRow;
+use crate::rows::PinRow;
+
+#[derive(Drop)]
+pub struct Sheets {
+    pub(crate) pins: Vec<PinRow>,
+    pub(crate) modes: Vec<ModeRow>,
+    pub(crate) bounds: Vec<BoundRow>,
+    pub(crate) demands: Vec<Demand>,
+    ghost kept: { ∥ Kept (vec-items pins) (vec-items modes) (vec-items bounds) (vec-items demands) ∥₁ },
+}
