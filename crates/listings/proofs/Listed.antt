@@ -11,18 +11,18 @@ use Rattle.std.specs.declared.result.Result.the-variants.{Ok, Err}
 use Rattle.answers.specs.Sequels.{One, Only}
 use Rattle.answers.proofs.Sequels.{one-then, one-answers, only-one}
 use Rattle.text.specs.Written.{Parts}
-use Rattle.platform.specs.declared.fault.PlatformFault.{PlatformFault}
+use Rattle.faults.specs.declared.platform.PlatformFault.{PlatformFault}
 use Rattle.platform.specs.Inquiries.{Asked, Inquires}
 use Rattle.platform.proofs.Asking.{one-inquiry}
 use Rattle.settling.specs.declared.answer.Settled.{Settled}
 use Rattle.settling.specs.declared.cost.Draw.{Draw}
 use Rattle.settling.specs.declared.cost.HeatThenDraw.{HeatThenDraw}
-use Rattle.settling.specs.declared.fault.SettleFault.{SettleFault}
+use Rattle.faults.specs.declared.settle.SettleFault.{SettleFault}
 use Rattle.settling.specs.Sums.{draw-toll, heat-toll}
 use Rattle.settling.specs.Settling.{Settles}
 use Rattle.settling.proofs.Once.{settled-once}
-use Rattle.listings.specs.declared.fault.ListingFault.{ListingFault}
-use Rattle.listings.specs.declared.fault.ListingFault.the-variants.{Input, Parts as Few, Platform, Settle, Memory}
+use Rattle.faults.specs.declared.listing.ListingFault.{ListingFault}
+use Rattle.faults.specs.declared.listing.ListingFault.the-variants.{Input, Parts as Few, Platform, Settle, Memory}
 use Rattle.listings.specs.Inputs.{Four, Cuts, Cutting}
 use Rattle.listings.specs.Texts.{settled-text}
 use Rattle.listings.specs.Listings.{as-is, Lists-asked, Lists}

@@ -2,16 +2,16 @@
 use mathlib.Core.Path.{_≡_, refl}
 use native.Mathlib.Omega.{arith}
 use Rattle.answers.specs.Refusals.{Refusal, refusal}
-use Rattle.sheet.specs.declared.fault.SheetFault.{SheetFault}
-use Rattle.sheet.specs.declared.fault.SheetFault.the-variants.{TooLong, Names, Shape, Field, Turn, Crossed, Short, Memory as SheetMemory}
-use Rattle.sheet.specs.Faults.{sheet-refusal}
-use Rattle.platform.specs.declared.fault.PlatformFault.{PlatformFault}
-use Rattle.platform.specs.declared.fault.PlatformFault.the-variants.{Sheet, Twice, Driver, Memory as PlatformMemory}
-use Rattle.platform.specs.Making.{platform-refusal}
-use Rattle.settling.specs.declared.fault.SettleFault.the-variants.{UnknownRail, NoChoice}
-use Rattle.listings.specs.declared.fault.ListingFault.{ListingFault}
-use Rattle.listings.specs.declared.fault.ListingFault.the-variants.{Input, Parts, Platform, Settle, Memory}
-use Rattle.listings.specs.Faults.{listing-refusal}
+use Rattle.faults.specs.declared.sheet.SheetFault.{SheetFault}
+use Rattle.faults.specs.declared.sheet.SheetFault.the-variants.{TooLong, Names, Shape, Field, Turn, Crossed, Short, Memory as SheetMemory}
+use Rattle.faults.specs.Numbers.{sheet-refusal}
+use Rattle.faults.specs.declared.platform.PlatformFault.{PlatformFault}
+use Rattle.faults.specs.declared.platform.PlatformFault.the-variants.{Sheet, Twice, Driver, Memory as PlatformMemory}
+use Rattle.faults.specs.Numbers.{platform-refusal}
+use Rattle.faults.specs.declared.settle.SettleFault.the-variants.{UnknownRail, NoChoice}
+use Rattle.faults.specs.declared.listing.ListingFault.{ListingFault}
+use Rattle.faults.specs.declared.listing.ListingFault.the-variants.{Input, Parts, Platform, Settle, Memory}
+use Rattle.faults.specs.Numbers.{listing-refusal}
 
 sheet-starved : (f : SheetFault) → sheet-refusal f .number ≡ 0 → sheet-refusal f ≡ refusal 0 0 0
 sheet-starved (TooLong s) e = absurd (omega arith)

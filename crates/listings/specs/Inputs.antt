@@ -6,8 +6,8 @@ use denote.Ref.{now}
 use Rattle.std.specs.declared.result.Result.{Result}
 use Rattle.std.specs.declared.result.Result.the-variants.{Ok, Err}
 use Rattle.text.specs.Written.{Parts}
-use Rattle.listings.specs.declared.fault.ListingFault.{ListingFault}
-use Rattle.listings.specs.declared.fault.ListingFault.the-variants.{Input, Parts as Few, Platform, Settle, Memory}
+use Rattle.faults.specs.declared.listing.ListingFault.{ListingFault}
+use Rattle.faults.specs.declared.listing.ListingFault.the-variants.{Input, Parts as Few, Platform, Settle, Memory}
 
 -- the bytes of the four sheets
 pub record Four : Type 0 where

@@ -1,4 +1,3 @@
-pub mod Faults
 pub mod Inputs
 pub mod Texts
 pub mod Listings

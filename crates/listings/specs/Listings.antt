@@ -6,8 +6,8 @@ use Rattle.answers.specs.Sequels.{Then, Answers}
 use Rattle.platform.specs.Inquiries.{Asked, Inquires}
 use Rattle.settling.specs.Sums.{draw-toll, heat-toll}
 use Rattle.settling.specs.Settling.{Settles}
-use Rattle.listings.specs.declared.fault.ListingFault.{ListingFault}
-use Rattle.listings.specs.declared.fault.ListingFault.the-variants.{Platform, Settle}
+use Rattle.faults.specs.declared.listing.ListingFault.{ListingFault}
+use Rattle.faults.specs.declared.listing.ListingFault.the-variants.{Platform, Settle}
 use Rattle.listings.specs.Inputs.{Four, Cutting}
 use Rattle.listings.specs.Texts.{settled-text}
 

@@ -6,8 +6,8 @@ use Prim.Native.Nat.{ℕ}
 use Rattle.std.specs.declared.result.Result.the-variants.{Ok, Err}
 use Rattle.answers.specs.Refusals.{refusal}
 use Rattle.answers.specs.Sequels.{Only}
-use Rattle.listings.specs.declared.fault.ListingFault.{ListingFault}
-use Rattle.listings.specs.Faults.{listing-refusal}
+use Rattle.faults.specs.declared.listing.ListingFault.{ListingFault}
+use Rattle.faults.specs.Numbers.{listing-refusal}
 use Rattle.listings.specs.Texts.{refusal-text}
 use Rattle.listings.specs.Listings.{Lists}
 

@@ -3,8 +3,8 @@ ghost use Rattle.std.specs.declared.result.Result.the-variants.{Ok, Err};
 ghost use Rattle.std.specs.Results.{Cases};
 ghost use Rattle.listings.specs.Inputs.{Cutting};
 ghost use Rattle.listings.specs.Parts.{four-of};
-use crate::fault::ListingFault;
 use crate::four::FourSheets;
+use faults::ListingFault;
 
 const LONGEST: usize = 65535;
 

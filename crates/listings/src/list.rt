@@ -1,15 +1,15 @@
 // From the input's bytes to the bytes of its listing.
 ghost use Rattle.std.specs.Of.String.{string-bytes};
 ghost use Rattle.answers.specs.Sequels.{Exactly};
-ghost use Rattle.listings.specs.Faults.{listing-refusal};
+ghost use Rattle.faults.specs.Numbers.{listing-refusal};
 ghost use Rattle.platform.specs.Inquiries.{inquiry-of};
 ghost use Rattle.listings.specs.Listings.{Lists-asked, Lists};
-use crate::fault::ListingFault;
-use crate::fault::ListingFaultFromPlatform;
-use crate::fault::ListingFaultFromSettle;
-use crate::fault::ListingFaultFromWrite;
 use crate::input::cut;
 use crate::write::write_choice;
+use faults::ListingFault;
+use faults::ListingFaultFromPlatform;
+use faults::ListingFaultFromSettle;
+use faults::ListingFaultFromWrite;
 use platform::Inquiry;
 use platform::read_inquiry;
 use settling::Draw;
@@ -25,7 +25,7 @@ fn list_inquiry(heap: Global, inquiry: &Inquiry) -> Result<String, ListingFault>
     ensures { λ r. ⌜ Exactly string-bytes listing-refusal (Lists-asked (inquiry-of (now (inquiry .entry)))) r ⌝ }
 {
     let platform = &inquiry.platform;
-    let demands = inquiry.sheets.demands();
+    let demands = &inquiry.sheets.demands;
     let draw: Settled<Draw> = settle(platform, demands)?;
     let heat: Settled<HeatThenDraw> = settle(platform, demands)?;
     let mut out = String::new(heap);

@@ -7,11 +7,11 @@ use Rattle.std.specs.declared.result.Result.{Result}
 use Rattle.std.specs.declared.result.Result.the-variants.{Ok, Err}
 use Rattle.answers.specs.Sequels.{One, Only, Then, Answers}
 use Rattle.answers.proofs.Sequels.{one-then, one-answers, only-one}
-use Rattle.sheet.specs.declared.fault.SheetFault.{SheetFault}
+use Rattle.faults.specs.declared.sheet.SheetFault.{SheetFault}
 use Rattle.sheets.specs.Reading.{Rows, Reading}
 use Rattle.sheets.proofs.Readings.{one-reading}
-use Rattle.platform.specs.declared.fault.PlatformFault.{PlatformFault}
-use Rattle.platform.specs.declared.fault.PlatformFault.the-variants.{Sheet}
+use Rattle.faults.specs.declared.platform.PlatformFault.{PlatformFault}
+use Rattle.faults.specs.declared.platform.PlatformFault.the-variants.{Sheet}
 use Rattle.platform.specs.Describing.{Model}
 use Rattle.platform.specs.Making.{Makes}
 use Rattle.platform.specs.Inquiries.{Asked, as-is, Inquires}

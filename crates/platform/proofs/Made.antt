@@ -11,8 +11,8 @@ use Rattle.std.specs.declared.result.Result.the-variants.{Ok, Err}
 use Rattle.answers.specs.Sequels.{One, Only}
 use Rattle.answers.proofs.Sequels.{only-one}
 use Rattle.sheets.specs.Reading.{Rows, Kept}
-use Rattle.platform.specs.declared.fault.PlatformFault.{PlatformFault}
-use Rattle.platform.specs.declared.fault.PlatformFault.the-variants.{Sheet, Twice, Driver, Memory}
+use Rattle.faults.specs.declared.platform.PlatformFault.{PlatformFault}
+use Rattle.faults.specs.declared.platform.PlatformFault.the-variants.{Sheet, Twice, Driver, Memory}
 use Rattle.platform.specs.Units.{Device, unit-at}
 use Rattle.platform.specs.Rules.{Each, Pins-counted, Modes-counted, Wired, Apart, Mild, Cool, Level, Driven}
 use Rattle.platform.specs.Describing.{Model, described}

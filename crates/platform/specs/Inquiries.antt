@@ -6,8 +6,8 @@ use Rattle.answers.specs.Sequels.{Then, Answers}
 use Rattle.sheets.specs.declared.rows.Demand.{Demand}
 use Rattle.sheets.specs.Reading.{Rows, Reading}
 use Rattle.sheets.specs.Sets.{rows-of}
-use Rattle.platform.specs.declared.fault.PlatformFault.{PlatformFault}
-use Rattle.platform.specs.declared.fault.PlatformFault.the-variants.{Sheet}
+use Rattle.faults.specs.declared.platform.PlatformFault.{PlatformFault}
+use Rattle.faults.specs.declared.platform.PlatformFault.the-variants.{Sheet}
 use Rattle.platform.specs.declared.inquiry.Inquiry.{Inquiry}
 use Rattle.platform.specs.Describing.{Model}
 use Rattle.platform.specs.Making.{model-of, Makes}

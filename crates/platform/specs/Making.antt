@@ -6,22 +6,13 @@ use lib.ListN.{length}
 use Rattle.std.specs.Of.Vec.{vec-items}
 use Rattle.std.specs.declared.result.Result.{Result}
 use Rattle.std.specs.declared.result.Result.the-variants.{Ok, Err}
-use Rattle.answers.specs.Refusals.{Refusal, refusal}
-use Rattle.sheet.specs.Faults.{sheet-refusal}
 use Rattle.sheets.specs.Reading.{Rows}
-use Rattle.platform.specs.declared.fault.PlatformFault.{PlatformFault}
-use Rattle.platform.specs.declared.fault.PlatformFault.the-variants.{Sheet, Twice, Driver, Memory}
+use Rattle.faults.specs.declared.platform.PlatformFault.{PlatformFault}
+use Rattle.faults.specs.declared.platform.PlatformFault.the-variants.{Sheet, Twice, Driver, Memory}
 use Rattle.platform.specs.declared.platform.Platform.{Platform}
 use Rattle.platform.specs.Units.{Device, devices, unit-at}
 use Rattle.platform.specs.Rules.{Apart, Each, drivers, Driven}
 use Rattle.platform.specs.Describing.{Model, described}
-
--- every fault's number, sheet and line
-abbrev pub platform-refusal : PlatformFault → Refusal
-platform-refusal (Sheet e) = sheet-refusal e
-platform-refusal (Twice unit) = refusal 8 0 0
-platform-refusal (Driver rail) = refusal 9 0 0
-platform-refusal Memory = refusal 0 0 0
 
 abbrev pub model-of : Platform → Model
 model-of p = record { rails = p .rails; units = devices (vec-items (p .units)) }

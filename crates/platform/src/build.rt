@@ -115,8 +115,8 @@ fn modes_of(
 fn unit_from(heap: Global, sheets: &Sheets, unit: usize) -> Result<Unit, AllocError>
     ensures { λ r. ⌜ made r (λ u. device u ≡ unit-from (rows-of (now (sheets .entry))) unit) ⌝ }
 {
-    let pins = pins_of(heap, sheets.pins(), unit)?;
-    let modes = modes_of(heap, sheets.modes(), sheets.bounds(), unit)?;
+    let pins = pins_of(heap, &sheets.pins, unit)?;
+    let modes = modes_of(heap, &sheets.modes, &sheets.bounds, unit)?;
     Ok(Unit { pins, modes })
 }
 
@@ -125,7 +125,7 @@ pub(crate) fn units_from(heap: Global, sheets: &Sheets) -> Result<Vec<Unit>, All
     ensures { λ r. ⌜ made r (λ v. devices (vec-items v) ≡ map (unit-from (rows-of (now (sheets .entry)))) (counting 0 (unit-count (rows-of (now (sheets .entry)) .pins)))) ⌝ }
 {
     let mut out = Vec::new(heap);
-    for unit in 0..units_of(sheets.pins()) {
+    for unit in 0..units_of(&sheets.pins) {
         out.push(unit_from(heap, sheets, unit)?)?;
     }
     Ok(out)

@@ -1,11 +1,11 @@
 // A platform with the customer's demands on it, read from the four sheets.
 ghost use mathlib.Core.Path.{_≡_};
 ghost use Rattle.answers.specs.Sequels.{Exactly};
-ghost use Rattle.platform.specs.Making.{platform-refusal};
+ghost use Rattle.faults.specs.Numbers.{platform-refusal};
 ghost use Rattle.platform.specs.Inquiries.{inquiry-of, Inquires};
-use crate::fault::PlatformFault;
-use crate::fault::PlatformFaultFromSheet;
 use crate::platform::Platform;
+use faults::PlatformFault;
+use faults::PlatformFaultFromSheet;
 use sheets::Sheets;
 use sheets::read_sheets;
 use std::alloc::Global;
@@ -29,35 +29,4 @@ pub fn read_inquiry(
     let sheets = read_sheets(heap, pins, modes, bounds, demands)?;
     let platform = Platform::new(heap, &sheets)?;
     Ok(Inquiry { platform, sheets })
-}
-
-impl PlatformFault {
-    pub fn number(&self) -> u8
-        ensures { λ r. ⌜ r ≡ platform-refusal (now (self .entry)) .number ⌝ }
-    {
-        match self {
-            PlatformFault::Sheet(e) => e.number(),
-            PlatformFault::Twice { .. } => 8,
-            PlatformFault::Driver { .. } => 9,
-            PlatformFault::Memory => 0,
-        }
-    }
-
-    pub fn sheet(&self) -> u8
-        ensures { λ r. ⌜ r ≡ platform-refusal (now (self .entry)) .sheet ⌝ }
-    {
-        match self {
-            PlatformFault::Sheet(e) => e.sheet(),
-            PlatformFault::Twice { .. } | PlatformFault::Driver { .. } | PlatformFault::Memory => 0,
-        }
-    }
-
-    pub fn line(&self) -> usize
-        ensures { λ r. ⌜ r ≡ platform-refusal (now (self .entry)) .line ⌝ }
-    {
-        match self {
-            PlatformFault::Sheet(e) => e.line(),
-            PlatformFault::Twice { .. } | PlatformFault::Driver { .. } | PlatformFault::Memory => 0,
-        }
-    }
 }

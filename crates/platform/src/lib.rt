@@ -1,7 +1,6 @@
 // Platforms: rails, units, pins, modes, mixes and their rules.
 mod build;
 mod check;
-pub mod fault;
 pub mod inquiry;
 pub mod make;
 pub mod parts;
@@ -9,10 +8,6 @@ pub mod platform;
 pub mod read;
 pub mod rest;
 
-pub use fault::PlatformFault;
-pub use fault::PlatformFaultFromAlloc;
-pub use fault::PlatformFaultFromRefused;
-pub use fault::PlatformFaultFromSheet;
 pub use inquiry::Inquiry;
 pub use inquiry::read_inquiry;
 pub use parts::Bounds;

@@ -1,14 +1,15 @@
 // Makes a platform from its sheets.
 ghost use Rattle.answers.specs.Sequels.{Exactly};
 ghost use Rattle.sheets.specs.Sets.{rows-of};
-ghost use Rattle.platform.specs.Making.{platform-refusal, model-of, Makes};
+ghost use Rattle.faults.specs.Numbers.{platform-refusal};
+ghost use Rattle.platform.specs.Making.{model-of, Makes};
 use crate::build::rails_of;
 use crate::build::units_from;
 use crate::check::lowest_twice;
 use crate::check::lowest_undriven;
-use crate::fault::PlatformFault;
-use crate::fault::PlatformFaultFromAlloc;
 use crate::platform::Platform;
+use faults::PlatformFault;
+use faults::PlatformFaultFromAlloc;
 use sheets::Sheets;
 use std::alloc::Global;
 
@@ -21,7 +22,7 @@ impl Platform {
         if let Some(unit) = lowest_twice(&units) {
             return Err(PlatformFault::Twice { unit });
         }
-        let rails = rails_of(sheets.pins());
+        let rails = rails_of(&sheets.pins);
         if let Some(rail) = lowest_undriven(&units, rails) {
             return Err(PlatformFault::Driver { rail });
         }

@@ -12,7 +12,7 @@ use Rattle.sheets.specs.declared.rows.Demand.{Demand}
 use Rattle.platform.specs.declared.parts.Bounds.{Bounds}
 use Rattle.platform.specs.Units.{Device, bounds-at, no-bounds, value-of, Within}
 use Rattle.settling.specs.declared.answer.Settled.{Settled}
-use Rattle.settling.specs.declared.fault.SettleFault.the-variants.{UnknownRail, NoChoice}
+use Rattle.faults.specs.declared.settle.SettleFault.the-variants.{UnknownRail, NoChoice}
 use Rattle.settling.specs.Choices.{Known, In-window, Same}
 use Rattle.settling.specs.Tolls.{Toll, cost}
 use Rattle.settling.specs.Settling.{Unknown-at, Settlement, Settled-once}

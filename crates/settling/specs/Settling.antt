@@ -7,8 +7,8 @@ use Rattle.std.specs.declared.result.Result.{Result}
 use Rattle.std.specs.declared.result.Result.the-variants.{Ok, Err}
 use Rattle.sheets.specs.declared.rows.Demand.{Demand}
 use Rattle.platform.specs.Units.{Device, bounds-at, value-of, Resting}
-use Rattle.settling.specs.declared.fault.SettleFault.{SettleFault}
-use Rattle.settling.specs.declared.fault.SettleFault.the-variants.{UnknownRail, NoChoice}
+use Rattle.faults.specs.declared.settle.SettleFault.{SettleFault}
+use Rattle.faults.specs.declared.settle.SettleFault.the-variants.{UnknownRail, NoChoice}
 use Rattle.settling.specs.declared.answer.Settled.{Settled}
 use Rattle.settling.specs.Choices.{demand-at, Known, mode-of, In-window, Meets, Hopeless}
 use Rattle.settling.specs.Tolls.{Toll, cost, Least}

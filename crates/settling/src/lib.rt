@@ -2,7 +2,6 @@
 pub mod answer;
 pub mod cost;
 mod draft;
-pub mod fault;
 mod search;
 pub mod theorems;
 pub mod total;
@@ -16,7 +15,6 @@ pub use cost::Draw;
 pub use cost::DrawCost;
 pub use cost::HeatThenDraw;
 pub use cost::HeatThenDrawCost;
-pub use fault::SettleFault;
 pub use theorems::hopeless_exactly;
 pub use theorems::settled_once;
 pub use total::cost_of;

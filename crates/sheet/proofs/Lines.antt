@@ -14,10 +14,10 @@ use Rattle.std.proofs.shelf.Lists.{take-all, take-more, nil-from-length, joined
 use Rattle.std.proofs.str.Laws.{order}
 use Rattle.text.specs.Written.{Lacks, commas, Fields}
 use Rattle.text.proofs.Cuts.{around}
-use Rattle.sheet.specs.Faults.{Told}
+use Rattle.sheet.specs.Sheets.{Told}
 use Rattle.sheet.specs.Sheets.{Sheet, Inner, Plain, line, line-fault, written, render, Fits, GoodAfter, Good, Granted, At, Misnamed, Unended, Refused, Shaped, Starts, checks, BadLine, LineFault, ReadsRow, Lawful}
-use Rattle.sheet.specs.declared.fault.SheetFault.{SheetFault}
-use Rattle.sheet.specs.declared.fault.SheetFault.the-variants.{Short}
+use Rattle.faults.specs.declared.sheet.SheetFault.{SheetFault}
+use Rattle.faults.specs.declared.sheet.SheetFault.the-variants.{Short}
 use Rattle.sheet.proofs.Laws.{cut-same, line-same, start-same, row-some}
 
 -- a test that came out false, and one that came out true

@@ -13,10 +13,11 @@ use Rattle.std.proofs.shelf.Lists.{append-cancel-left}
 use Rattle.answers.specs.Sequels.{One, Only, Exactly}
 use Rattle.answers.proofs.Orders.{one-first, none-bad}
 use Rattle.answers.proofs.Sequels.{only-one}
-use Rattle.sheet.specs.Faults.{Told, sheet-refusal}
+use Rattle.faults.specs.Numbers.{sheet-refusal}
+use Rattle.sheet.specs.Sheets.{Told}
 use Rattle.sheet.specs.Sheets.{Sheet, line-fault, written, render, Good, checks, BadLine, TooFew, Granted, At, Misnamed, Unended, Refused, Outcome, One-outcome, One-writing, Reads-back, Lawful}
-use Rattle.sheet.specs.declared.fault.SheetFault.{SheetFault}
-use Rattle.sheet.specs.declared.fault.SheetFault.the-variants.{TooLong, Names, Shape, Field, Turn, Crossed, Short, Memory}
+use Rattle.faults.specs.declared.sheet.SheetFault.{SheetFault}
+use Rattle.faults.specs.declared.sheet.SheetFault.the-variants.{TooLong, Names, Shape, Field, Turn, Crossed, Short, Memory}
 use Rattle.sheet.proofs.Laws.{Goes, passes, grows, compare-rows}
 
 -- where reading good rows stopped: at the end with all rows or too few, or at a line that fails a check

@@ -11,8 +11,9 @@ use Rattle.std.specs.declared.result.Result.the-variants.{Ok, Err}
 use Rattle.text.specs.Written.{Lacks, commas}
 use Rattle.answers.specs.Checks.{FirstBad}
 use Rattle.answers.specs.Sequels.{One, Only}
-use Rattle.sheet.specs.declared.fault.SheetFault.{SheetFault}
-use Rattle.sheet.specs.declared.fault.SheetFault.the-variants.{TooLong, Names, Shape, Field, Turn, Crossed, Short, Memory}
+use Rattle.faults.specs.Numbers.{sheet-refusal}
+use Rattle.faults.specs.declared.sheet.SheetFault.{SheetFault}
+use Rattle.faults.specs.declared.sheet.SheetFault.the-variants.{TooLong, Names, Shape, Field, Turn, Crossed, Short, Memory}
 
 -- a kind of sheet: its number, its names line, how many fields a line has, how a row is written, and the rules of its rows
 pub record Sheet (Row : Type 0) : Type 1 where
@@ -47,6 +48,10 @@ line-fault zero h n = Shape h n
 line-fault (suc zero) h n = Field h n
 line-fault (suc (suc zero)) h n = Turn h n
 line-fault (suc (suc (suc k))) h n = Crossed h n
+
+-- P of a fault that has a number; of want of memory nothing is said
+abbrev pub Told : (SheetFault → Type 0) → SheetFault → Type 0
+Told P f = 0 < sheet-refusal f .number → P f
 
 -- a field has neither a comma nor a line end in it
 abbrev pub Inner : ℕ → Type 0

@@ -5,12 +5,13 @@ ghost use lib.ListN.{length};
 ghost use Rattle.std.specs.Of.Vec.{vec-items};
 ghost use Rattle.std.specs.Results.{Cases};
 ghost use Rattle.answers.specs.Sequels.{Exactly};
-ghost use Rattle.sheet.specs.Faults.{Told, sheet-refusal};
+ghost use Rattle.faults.specs.Numbers.{sheet-refusal};
+ghost use Rattle.sheet.specs.Sheets.{Told};
 ghost use Rattle.sheet.specs.Sheets.{LineFault, ReadsRow, Granted, Refused as RefusedBy, Outcome, One-outcome, One-writing, Reads-back};
-use crate::fault::SheetFault;
-use crate::fault::SheetFaultFromAlloc;
-use crate::fault::SheetFaultFromRefused;
 use crate::layout::Layout;
+use faults::SheetFault;
+use faults::SheetFaultFromAlloc;
+use faults::SheetFaultFromRefused;
 use std::alloc::Global;
 
 const LONGEST: usize = 65535;

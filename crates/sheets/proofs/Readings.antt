@@ -7,7 +7,7 @@ use Rattle.std.specs.declared.result.Result.{Result}
 use Rattle.std.specs.declared.result.Result.the-variants.{Ok, Err}
 use Rattle.answers.specs.Sequels.{One, Only, Then, Answers}
 use Rattle.answers.proofs.Sequels.{one-then, one-answers, only-one}
-use Rattle.sheet.specs.declared.fault.SheetFault.{SheetFault}
+use Rattle.faults.specs.declared.sheet.SheetFault.{SheetFault}
 use Rattle.sheet.specs.Sheets.{Sheet, Granted, Outcome}
 use Rattle.sheet.proofs.Outcomes.{one-outcome}
 use Rattle.sheets.specs.declared.rows.PinRow.{PinRow}

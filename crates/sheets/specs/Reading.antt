@@ -3,7 +3,7 @@ use mathlib.Core.List.{List}
 use Prim.Native.Nat.{ℕ}
 use Rattle.std.specs.declared.result.Result.{Result}
 use Rattle.answers.specs.Sequels.{Then, Answers}
-use Rattle.sheet.specs.declared.fault.SheetFault.{SheetFault}
+use Rattle.faults.specs.declared.sheet.SheetFault.{SheetFault}
 use Rattle.sheet.specs.Sheets.{Sheet, Good, Outcome, One-writing, Reads-back}
 use Rattle.sheets.specs.declared.rows.PinRow.{PinRow}
 use Rattle.sheets.specs.declared.rows.ModeRow.{ModeRow}

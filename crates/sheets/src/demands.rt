@@ -1,12 +1,12 @@
 // Sheet 3, the customer's demands.
 ghost use Rattle.std.specs.Of.Vec.{vec-items};
 ghost use Rattle.answers.specs.Sequels.{Exactly};
-ghost use Rattle.sheet.specs.Faults.{sheet-refusal};
+ghost use Rattle.faults.specs.Numbers.{sheet-refusal};
 ghost use Rattle.sheet.specs.Sheets.{Outcome};
 ghost use Rattle.sheets.specs.Kinds.{demand-sheet};
 use crate::rows::Demand;
+use faults::SheetFault;
 use sheet::Layout;
-use sheet::SheetFault;
 use std::alloc::Global;
 
 #[derive(Clone, Copy)]

@@ -3,15 +3,15 @@ ghost use mathlib.Core.Path.{_≡_};
 ghost use Rattle.std.specs.Of.Vec.{vec-items};
 ghost use Rattle.std.specs.Options.{Cases as BySome};
 ghost use Rattle.answers.specs.Sequels.{Exactly};
-ghost use Rattle.sheet.specs.Faults.{sheet-refusal};
+ghost use Rattle.faults.specs.Numbers.{sheet-refusal};
 ghost use Rattle.sheet.specs.Sheets.{Outcome};
 ghost use Rattle.sheets.specs.Kinds.{kind-letter, mode-sheet};
 use crate::rows::Kind;
 use crate::rows::ModeRow;
 use crate::turn::begins;
 use crate::turn::follows;
+use faults::SheetFault;
 use sheet::Layout;
-use sheet::SheetFault;
 use std::alloc::Global;
 
 // The sheet has modes for so many units.

@@ -4,7 +4,7 @@ ghost use mathlib.Core.List.{[], _∷_};
 ghost use Rattle.std.specs.Of.Vec.{vec-items};
 ghost use Rattle.std.specs.Options.{Cases as BySome};
 ghost use Rattle.answers.specs.Sequels.{Exactly};
-ghost use Rattle.sheet.specs.Faults.{sheet-refusal};
+ghost use Rattle.faults.specs.Numbers.{sheet-refusal};
 ghost use Rattle.sheet.specs.Sheets.{Outcome};
 ghost use Rattle.sheets.specs.Turns.{unit-count};
 ghost use Rattle.sheets.specs.Kinds.{way-letter, pin-sheet};
@@ -12,8 +12,8 @@ use crate::rows::PinRow;
 use crate::rows::Way;
 use crate::turn::begins;
 use crate::turn::follows;
+use faults::SheetFault;
 use sheet::Layout;
-use sheet::SheetFault;
 use std::alloc::Global;
 
 #[derive(Clone, Copy)]

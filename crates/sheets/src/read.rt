@@ -4,7 +4,7 @@ ghost use mathlib.Core.List.{List};
 ghost use Prim.Native.Nat.{ℕ};
 ghost use Rattle.std.specs.Of.Vec.{vec-items};
 ghost use Rattle.answers.specs.Sequels.{Exactly};
-ghost use Rattle.sheet.specs.Faults.{sheet-refusal};
+ghost use Rattle.faults.specs.Numbers.{sheet-refusal};
 ghost use Rattle.sheet.specs.Sheets.{One-writing, Reads-back};
 ghost use Rattle.sheets.specs.Kinds.{pin-sheet, mode-sheet, bound-sheet, demand-sheet};
 ghost use Rattle.sheets.specs.Reading.{Reading};
@@ -14,13 +14,9 @@ use crate::demands::read_demands;
 use crate::modes::read_modes;
 use crate::pins::read_pins;
 use crate::pins::units_of;
-use crate::rows::BoundRow;
-use crate::rows::Demand;
-use crate::rows::ModeRow;
-use crate::rows::PinRow;
 use crate::rows::Place;
 use crate::set::Sheets;
-use sheet::SheetFault;
+use faults::SheetFault;
 use std::alloc::Global;
 
 // The rows of the four sheets, or the first fault: each sheet is read whole before the next.
@@ -52,29 +48,3 @@ pub fn sheets_read_back()
     ensures bounds { λ _. ⌜ ((places : List Place) → Reads-back (bound-sheet places) × One-writing (bound-sheet places)) ⌝ }
     ensures demands { λ _. ⌜ Reads-back demand-sheet × One-writing demand-sheet ⌝ }
 {}
-
-impl Sheets {
-    pub fn pins(&self) -> &[PinRow]
-        ensures { λ r. ⌜ now r ≡ rows-of (now (self .entry)) .pins ⌝ }
-    {
-        &self.pins
-    }
-
-    pub fn modes(&self) -> &[ModeRow]
-        ensures { λ r. ⌜ now r ≡ rows-of (now (self .entry)) .modes ⌝ }
-    {
-        &self.modes
-    }
-
-    pub fn bounds(&self) -> &[BoundRow]
-        ensures { λ r. ⌜ now r ≡ rows-of (now (self .entry)) .bounds ⌝ }
-    {
-        &self.bounds
-    }
-
-    pub fn demands(&self) -> &[Demand]
-        ensures { λ r. ⌜ now r ≡ rows-of (now (self .entry)) .demands ⌝ }
-    {
-        &self.demands
-    }
-}

@@ -8,9 +8,9 @@ use crate::rows::PinRow;
 
 #[derive(Drop)]
 pub struct Sheets {
-    pub(crate) pins: Vec<PinRow>,
-    pub(crate) modes: Vec<ModeRow>,
-    pub(crate) bounds: Vec<BoundRow>,
-    pub(crate) demands: Vec<Demand>,
+    pub pins: Vec<PinRow>,
+    pub modes: Vec<ModeRow>,
+    pub bounds: Vec<BoundRow>,
+    pub demands: Vec<Demand>,
     ghost kept: { ∥ Kept (vec-items pins) (vec-items modes) (vec-items bounds) (vec-items demands) ∥₁ },
 }

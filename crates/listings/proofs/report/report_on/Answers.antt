@@ -3,7 +3,7 @@ use mathlib.Core.Logic.{⊎-elim}
 use Prim.Native.Nat.{_≤_, _<_}
 use native.Mathlib.Omega.{arith}
 use Rattle.std.proofs.shelf.Tests.{cases-lt}
-use Rattle.listings.specs.Faults.{listing-refusal}
+use Rattle.faults.specs.Numbers.{listing-refusal}
 use Rattle.listings.specs.Texts.{refusal-text}
 use Rattle.listings.specs.Reports.{stopped, starved}
 use Rattle.listings.proofs.Starved.{starved-says}

@@ -5,7 +5,7 @@ use lib.Chars.{codes}
 use Rattle.std.specs.Of.String.{string-bytes}
 use Rattle.std.specs.Written.{decimal}
 use Rattle.sheet.specs.Sheets.{line}
-use Rattle.listings.specs.Faults.{listing-refusal}
+use Rattle.faults.specs.Numbers.{listing-refusal}
 use Rattle.listings.proofs.Lines.{both}
 use Rattle.listings.proofs.write.refusal_text.Needs as need
 

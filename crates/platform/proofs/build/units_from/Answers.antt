@@ -15,4 +15,4 @@ loop-unit-again c = units-more (rows-of (c .args .sheets .now)) (c .loop-unit .u
 pub returns : need.returns
 returns c =
     let e : c .loop-unit .unit ≡ c .units-of-unit-end .result = omega arith in
-    c .loop-unit .inv ∙ ap (λ n. map (unit-from (rows-of (c .args .sheets .now))) (counting 0 n)) (e ∙ c .units-of-unit-end .ensures ∙ ap unit-count (c .pins .ensures))
+    c .loop-unit .inv ∙ ap (λ n. map (unit-from (rows-of (c .args .sheets .now))) (counting 0 n)) (e ∙ c .units-of-unit-end .ensures ∙ ap unit-count (c .deref .ensures .value))

@@ -11,7 +11,7 @@ use Rattle.std.specs.Orderings.{Decides}
 use Rattle.std.proofs.shelf.Equals.{matches-decides}
 use Rattle.std.proofs.shelf.Results.{err-from-errBy}
 use Rattle.std.proofs.shelf.Lists.{take-rest}
-use Rattle.sheet.specs.Faults.{Told}
+use Rattle.sheet.specs.Sheets.{Told}
 use Rattle.sheet.specs.Sheets.{LineFault, ReadsRow}
 use Rattle.sheet.proofs.Lines.{refuted, held, differs, agrees, Sofar, one-more, counts, shrinks, passes-on, short-of, granted, begun, misnamed, unended-names}
 use Rattle.sheet.proofs.read.read_rows.Given as given

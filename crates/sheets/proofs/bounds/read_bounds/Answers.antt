@@ -4,7 +4,7 @@ use native.Mathlib.Omega.{arith}
 use Rattle.std.specs.Of.Vec.{vec-items}
 use Rattle.std.proofs.shelf.Results.{err-from-errBy}
 use Rattle.answers.specs.Sequels.{Exactly}
-use Rattle.sheet.specs.Faults.{sheet-refusal}
+use Rattle.faults.specs.Numbers.{sheet-refusal}
 use Rattle.sheet.specs.Sheets.{Outcome}
 use Rattle.sheets.specs.declared.rows.Place.{Place}
 use Rattle.sheets.specs.Kinds.{bound-sheet}

@@ -1,8 +1,8 @@
 // What may keep a listing from being made.
 ghost use mathlib.Core.Path.{_≡_};
-ghost use Rattle.listings.specs.declared.fault.ListingFault.the-variants.{Platform, Settle, Memory};
-use platform::PlatformFault;
-use settling::SettleFault;
+ghost use Rattle.faults.specs.declared.listing.ListingFault.the-variants.{Platform, Settle, Memory};
+use crate::platform::PlatformFault;
+use crate::settle::SettleFault;
 use std::fmt;
 
 // The whole input is too long; it has too few empty lines; its platform or its settling is refused; want of memory.

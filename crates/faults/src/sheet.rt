@@ -1,6 +1,6 @@
 // What may be wrong with a sheet.
 ghost use mathlib.Core.Path.{_≡_};
-ghost use Rattle.sheet.specs.declared.fault.SheetFault.the-variants.{Memory};
+ghost use Rattle.faults.specs.declared.sheet.SheetFault.the-variants.{Memory};
 use std::alloc::AllocError;
 use std::alloc::Refused;
 

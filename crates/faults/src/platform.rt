@@ -1,7 +1,7 @@
 // What may be wrong with a platform.
 ghost use mathlib.Core.Path.{_≡_};
-ghost use Rattle.platform.specs.declared.fault.PlatformFault.the-variants.{Sheet, Memory};
-use sheet::SheetFault;
+ghost use Rattle.faults.specs.declared.platform.PlatformFault.the-variants.{Sheet, Memory};
+use crate::sheet::SheetFault;
 use std::alloc::AllocError;
 use std::alloc::Refused;
 
