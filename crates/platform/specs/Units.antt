@@ -66,7 +66,7 @@ Rests u m = (m < length (u .modes)) × (mode-at u m .kind ≡ Kind.Rest)
 abbrev pub value-of : List ℕ → ℕ → ℕ
 value-of mix r = getD mix r 0
 
--- the mix puts the unit in mode m: each of its rails lies within that mode's bounds
+-- the mix puts the unit in mode m: pin by pin, the rail's value is within the mode's bounds for that pin
 abbrev pub In-mode : Device → ℕ → List ℕ → Type 0
 In-mode u m mix = (p : ℕ) → p < length (u .pins) → Within (pin-bounds u m p) (value-of mix (rail-at u p))
 
