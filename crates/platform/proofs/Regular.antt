@@ -51,7 +51,7 @@ regular-prop rows =
     (×-prop (Π-prop (λ k. Π-prop (λ h. Π-prop (λ p. Π-prop (λ q. le-prop)))))
     (Π-prop (λ k. Π-prop (λ h. Π-prop (λ m. Π-prop (λ p. Π-prop (λ q. ⊥-prop))))))))))))
 
-below-count : (rows : List PinRow) → All (λ r. r .rail < rail-count rows) rows
+pub below-count : (rows : List PinRow) → All (λ r. r .rail < rail-count rows) rows
 below-count [] = tt
 below-count (r ∷ rows) = (omega arith, all-weaker (λ x. x .rail < rail-count rows) (λ x. x .rail < rail-count (r ∷ rows)) (λ x h. omega arith) rows (below-count rows))
 

@@ -1,0 +1,4 @@
+pub mod Filters
+pub mod Turns
+pub mod Owed
+pub mod Holding
