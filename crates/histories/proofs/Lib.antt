@@ -1,0 +1,9 @@
+pub mod Spans
+pub mod Opening
+pub mod Kept
+pub mod Safety
+pub mod Ends
+pub mod Due
+pub mod Arrival
+pub mod Shifts
+pub mod Orders
