@@ -13,45 +13,45 @@ module _ (g : given.Over) where
   law : (c : After-width g) → Lawful (g.L.Layout.sheet c.args.layout.now)
   law c = g.met.L.Layout.lawful c.args.layout.now
 
-  cut : (c : After-width g) → Line c.args.rest.now (map (λ x. x.now) (vec_items c.in-ok-fields.fields)) (drop (c.find-end.result + 1) c.args.rest.now)
+  cut : (c : After-width g) → Line c.args.rest.now (map (λ x. x.now) (vec_items c.in_ok-fields.fields)) (drop (c.find-end.result + 1) c.args.rest.now)
   cut c =
       let l : c.find-end.result < length c.args.rest.now = omega (arith, c.find-end.ensures.within) in
-      line_cut c.find-end.result l (c.find-end.ensures.found l) c.find-end.ensures.before (ap (λ n. take n c.args.rest.now) (sub-zero c.find-end.result)) c.in-ok-fields.ensures
+      line_cut c.find-end.result l (c.find-end.ensures.found l) c.find-end.ensures.before (ap (λ n. take n c.args.rest.now) (sub-zero c.find-end.result)) c.in_ok-fields.ensures
 
-  counted : (c : After-width g) → c.len.result ≡ length (map (λ x. x.now) (vec_items c.in-ok-fields.fields))
-  counted c = c.len.ensures ∙ c.in-ok-fields.fields.ok.0 ∙ sym (length-map (vec_items c.in-ok-fields.fields) (λ x. x.now))
+  counted : (c : After-width g) → c.len.result ≡ length (map (λ x. x.now) (vec_items c.in_ok-fields.fields))
+  counted c = c.len.ensures ∙ c.in_ok-fields.fields.ok.0 ∙ sym (length-map (vec_items c.in_ok-fields.fields) (λ x. x.now))
 
 pub returns-then-end-rest : goal.returns-then-end-rest
 returns-then-end-rest g c _ = unended (g.met.L.Layout.lawful c.args.layout.now) c.args.rows.now c.number-sheet.ensures c.args.line c.find-end.result c.requires (omega arith) c.find-end.ensures.before
 
-pub returns-in-err-fields : goal.returns-in-err-fields
-returns-in-err-fields g c = let p = err_from_is_err_and c.from-residual.result c.from-residual.ensures.1 in rw (p.1, p.2) (λ none. absurd (omega arith))
+pub returns-in_err-fields : goal.returns-in_err-fields
+returns-in_err-fields g c = let p = err_from_is_err_and c.from_residual.result c.from_residual.ensures.1 in rw (p.1, p.2) (λ none. absurd (omega arith))
 
 pub returns-then-len-width : goal.returns-then-len-width
 returns-then-len-width g c _ =
     let b = (goal.at.returns-then-len-width g c).After-width in
     miscounted (law g b) c.args.rows.now c.number-sheet.ensures (cut g b) c.args.line c.requires (λ e. c.if-len-width.true (counted g b ∙ e ∙ sym c.width.ensures))
 
-pub returns-in-default : goal.returns-in-default
-returns-in-default g c _ =
-    let b = (goal.at.returns-in-default g c).After-width in
-    unread (law g b) c.args.rows.now c.number-sheet.ensures (cut g b) c.args.line c.requires (sym (counted g b) ∙ c.if-len-width.false ∙ c.width.ensures) (λ r e. c.in-default.ensures r (e ∙ ap (map (λ x. x.now)) (sym c.as-slice.ensures.value)))
+pub returns-in_default : goal.returns-in_default
+returns-in_default g c _ =
+    let b = (goal.at.returns-in_default g c).After-width in
+    unread (law g b) c.args.rows.now c.number-sheet.ensures (cut g b) c.args.line c.requires (sym (counted g b) ∙ c.if-len-width.false ∙ c.width.ensures) (λ r e. c.in_default.ensures r (e ∙ ap (map (λ x. x.now)) (sym c.as_slice.ensures.value)))
 
 pub returns-then-not-next : goal.returns-then-not-next
 returns-then-not-next g c _ =
     let b = (goal.at.returns-then-not-next g c).After-width in
     let x = c.in-Some.ensures in
-    misplaced (law g b) c.args.rows.now c.number-sheet.ensures (cut g b) c.args.line c.requires (sym (counted g b) ∙ c.if-len-width.false ∙ c.width.ensures) (x.0 ∙ ap (map (λ x. x.now)) c.as-slice.ensures.value) x.1 (refuted c.if-not-next.true c.next.ensures)
+    misplaced (law g b) c.args.rows.now c.number-sheet.ensures (cut g b) c.args.line c.requires (sym (counted g b) ∙ c.if-len-width.false ∙ c.width.ensures) (x.0 ∙ ap (map (λ x. x.now)) c.as_slice.ensures.value) x.1 (refuted c.if-not-next.true c.next.ensures)
 
 pub returns-then-not-level : goal.returns-then-not-level
 returns-then-not-level g c _ =
     let b = (goal.at.returns-then-not-level g c).After-width in
     let x = c.in-Some.ensures in
-    crossed (law g b) c.args.rows.now c.number-sheet.ensures (cut g b) c.args.line c.requires (sym (counted g b) ∙ c.if-len-width.false ∙ c.width.ensures) (x.0 ∙ ap (map (λ x. x.now)) c.as-slice.ensures.value) x.1 (held c.if-not-next.false c.next.ensures) (refuted c.if-not-level.true c.level.ensures)
+    crossed (law g b) c.args.rows.now c.number-sheet.ensures (cut g b) c.args.line c.requires (sym (counted g b) ∙ c.if-len-width.false ∙ c.width.ensures) (x.0 ∙ ap (map (λ x. x.now)) c.as_slice.ensures.value) x.1 (held c.if-not-next.false c.next.ensures) (refuted c.if-not-level.true c.level.ensures)
 
 pub returns : goal.returns
 returns g c =
     let b = (goal.at.returns g c).After-width in
     let x = c.in-Some.ensures in
     subst (ReadsRow (g.L.Layout.sheet c.args.layout.now) c.args.rows.now c.args.rest.now c.in-Some.row) (sym (take_rest c.args.rest.now (c.find-end.result + 1)))
-    (reads (law g b) c.args.rows.now c.number-sheet.ensures (cut g b) c.args.line c.requires (sym (counted g b) ∙ c.if-len-width.false ∙ c.width.ensures) (x.0 ∙ ap (map (λ x. x.now)) c.as-slice.ensures.value) x.1 (held c.if-not-next.false c.next.ensures) (held c.if-not-level.false c.level.ensures))
+    (reads (law g b) c.args.rows.now c.number-sheet.ensures (cut g b) c.args.line c.requires (sym (counted g b) ∙ c.if-len-width.false ∙ c.width.ensures) (x.0 ∙ ap (map (λ x. x.now)) c.as_slice.ensures.value) x.1 (held c.if-not-next.false c.next.ensures) (held c.if-not-level.false c.level.ensures))
