@@ -9,30 +9,30 @@ use Rattle.listings.proofs.Lines.{both}
 use Rattle.listings.proofs.Listed.{at_draw, at_heat, asked_text}
 use Rattle.listings.proofs.list.list_inquiry.Goals as goal
 
-pub returns-in-err-draw : goal.returns-in-err-draw
-returns-in-err-draw c =
+pub returns-in_err-draw : goal.returns-in_err-draw
+returns-in_err-draw c =
     let p = err_from_is_err_and c.from-residual.result c.from-residual.ensures.1 in
     let q = inquiry_of c.args.inquiry.now in
-    rw (p.1, p.2) (λ h. at_draw q _ (subst (λ ds. Settles draw_toll q.model.rails q.model.units ds (Err c.in-err-draw.field-0.0)) c.deref.ensures.value c.in-err-draw.ensures))
+    rw (p.1, p.2) (λ h. at_draw q _ (subst (λ ds. Settles draw_toll q.model.rails q.model.units ds (Err c.in_err-draw.field-0.0)) c.deref.ensures.value c.in_err-draw.ensures))
 
-pub returns-in-err-heat : goal.returns-in-err-heat
-returns-in-err-heat c =
-    let p = err_from_is_err_and c.from-residual-in-err-heat.result c.from-residual-in-err-heat.ensures.1 in
+pub returns-in_err-heat : goal.returns-in_err-heat
+returns-in_err-heat c =
+    let p = err_from_is_err_and c.from-residual-in_err-heat.result c.from-residual-in_err-heat.ensures.1 in
     let q = inquiry_of c.args.inquiry.now in
-    rw (p.1, p.2) (λ h. at_heat q c.in-ok-draw.draw (subst (λ ds. Settles draw_toll q.model.rails q.model.units ds (Ok c.in-ok-draw.draw)) c.deref.ensures.value c.in-ok-draw.ensures) _ (subst (λ ds. Settles heat_toll q.model.rails q.model.units ds (Err c.in-err-heat.field-0.0)) c.deref-2.ensures.value c.in-err-heat.ensures))
+    rw (p.1, p.2) (λ h. at_heat q c.in_ok-draw.draw (subst (λ ds. Settles draw_toll q.model.rails q.model.units ds (Ok c.in_ok-draw.draw)) c.deref.ensures.value c.in_ok-draw.ensures) _ (subst (λ ds. Settles heat_toll q.model.rails q.model.units ds (Err c.in_err-heat.field-0.0)) c.deref-2.ensures.value c.in_err-heat.ensures))
 
-pub returns-in-err-write-choice : goal.returns-in-err-write-choice
-returns-in-err-write-choice c = let p = err_from_is_err_and c.from-residual-in-err-write-choice.result c.from-residual-in-err-write-choice.ensures.1 in rw (p.1, p.2) (λ none. absurd (omega arith))
+pub returns-in_err-write-choice : goal.returns-in_err-write-choice
+returns-in_err-write-choice c = let p = err_from_is_err_and c.from-residual-in_err-write-choice.result c.from-residual-in_err-write-choice.ensures.1 in rw (p.1, p.2) (λ none. absurd (omega arith))
 
-pub returns-in-err-write-choice-2 : goal.returns-in-err-write-choice-2
-returns-in-err-write-choice-2 c = let p = err_from_is_err_and c.from-residual-in-err-write-choice-2.result c.from-residual-in-err-write-choice-2.ensures.1 in rw (p.1, p.2) (λ none. absurd (omega arith))
+pub returns-in_err-write-choice-2 : goal.returns-in_err-write-choice-2
+returns-in_err-write-choice-2 c = let p = err_from_is_err_and c.from-residual-in_err-write-choice-2.result c.from-residual-in_err-write-choice-2.ensures.1 in rw (p.1, p.2) (λ none. absurd (omega arith))
 
 pub returns : goal.returns
 returns c =
     let q = inquiry_of c.args.inquiry.now in
-    let d = c.in-ok-draw.draw in
-    let h = c.in-ok-heat.heat in
-    asked_text q d (subst (λ ds. Settles draw_toll q.model.rails q.model.units ds (Ok d)) c.deref.ensures.value c.in-ok-draw.ensures)
-    h (subst (λ ds. Settles heat_toll q.model.rails q.model.units ds (Ok h)) c.deref-2.ensures.value c.in-ok-heat.ensures)
+    let d = c.in_ok-draw.draw in
+    let h = c.in_ok-heat.heat in
+    asked_text q d (subst (λ ds. Settles draw_toll q.model.rails q.model.units ds (Ok d)) c.deref.ensures.value c.in_ok-draw.ensures)
+    h (subst (λ ds. Settles heat_toll q.model.rails q.model.units ds (Ok h)) c.deref-2.ensures.value c.in_ok-heat.ensures)
     (string_bytes c.write-choice-2.new.out)
-    (both [] (settled_text q.model d) (settled_text q.model h) (c.in-ok-write-choice.ensures ∙ ap (λ l. l ++ settled_text q.model d) c.new-out.ensures.bytes) c.in-ok-write-choice-2.ensures)
+    (both [] (settled_text q.model d) (settled_text q.model h) (c.in_ok-write-choice.ensures ∙ ap (λ l. l ++ settled_text q.model d) c.new-out.ensures.bytes) c.in_ok-write-choice-2.ensures)

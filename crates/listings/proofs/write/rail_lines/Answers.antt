@@ -5,7 +5,7 @@ use Rattle.listings.proofs.Lines.{lines_more}
 use Rattle.listings.proofs.write.rail_lines.Goals as goal
 
 pub loop-rail-preserved : goal.loop-rail-preserved
-loop-rail-preserved c = lines_more (rail_line c.args.windows c.args.targets.values) (string_bytes c.args.out.now) c.loop-rail.rail-counter c.loop-rail.invariant (c.in-ok-writeln.ensures.bytes ∙ simp append_assoc)
+loop-rail-preserved c = lines_more (rail_line c.args.windows c.args.targets.values) (string_bytes c.args.out.now) c.loop-rail.rail-counter c.loop-rail.invariant (c.in_ok-writeln.ensures.bytes ∙ simp append_assoc)
 
 pub returns : goal.returns
 returns c =

@@ -5,7 +5,7 @@ use Rattle.listings.proofs.Lines.{lines_more}
 use Rattle.listings.proofs.write.unit_lines.Goals as goal
 
 pub loop-unit-preserved : goal.loop-unit-preserved
-loop-unit-preserved c = lines_more (unit_line c.args.modes) (string_bytes c.args.out.now) c.loop-unit.unit-counter c.loop-unit.invariant (c.in-ok-writeln.ensures.bytes ∙ simp append_assoc)
+loop-unit-preserved c = lines_more (unit_line c.args.modes) (string_bytes c.args.out.now) c.loop-unit.unit-counter c.loop-unit.invariant (c.in_ok-writeln.ensures.bytes ∙ simp append_assoc)
 
 pub returns : goal.returns
 returns c =

@@ -7,7 +7,7 @@ use Rattle.platform.proofs.Building.{units_more}
 use Rattle.platform.proofs.build.units_from.Goals as goal
 
 pub loop-unit-preserved : goal.loop-unit-preserved
-loop-unit-preserved c = units_more (rows_of c.args.sheets.now) c.loop-unit.unit (vec_items c.loop-unit.out) _ c.loop-unit.invariant c.in-ok-unit-from.ensures c.in-ok-push.ensures.items
+loop-unit-preserved c = units_more (rows_of c.args.sheets.now) c.loop-unit.unit (vec_items c.loop-unit.out) _ c.loop-unit.invariant c.in_ok-unit-from.ensures c.in_ok-push.ensures.items
 
 pub returns : goal.returns
 returns c =

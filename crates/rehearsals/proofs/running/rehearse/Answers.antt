@@ -5,13 +5,13 @@ use Rattle.promises.proofs.Promises.{promised}
 use Rattle.rehearsals.proofs.running.rehearse.Goals as goal
 
 pub make-calls-requires : goal.make-calls-requires
-make-calls-requires g c = let new = c.in-ok-open.ensures.2 in (new.journey, new.is)
+make-calls-requires g c = let new = c.in_ok-open.ensures.2 in (new.journey, new.is)
 
 pub returns : goal.returns
 returns g c =
     let p = c.args.platform.now in
     let b = c.args.board.now in
-    let opens = c.in-ok-open.ensures in
+    let opens = c.in_ok-open.ensures in
     let sound : Sound (model_of p).rails (model_of p).units = record {
       rails_counted = p.rails_counted;
       units_counted = p.units_counted;

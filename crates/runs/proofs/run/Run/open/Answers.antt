@@ -13,7 +13,7 @@ begun-requires g c =
     let first = value_of c.args.first.now.values in
     let script = c.args.script.now in
     let n = (model_of c.args.platform.now).rails in
-    let f = c.in-ok-check.ensures.0.formed in
+    let f = c.in_ok-check.ensures.0.formed in
     let few : c.rails-rails.result ≤ 24 = search rules in
     record { few = few; short = formed_short n first script f; known = rw c.rails-rails.ensures (formed_rails n first script f) }
 
@@ -26,7 +26,7 @@ returns g c =
     let fresh = subst (λ n. Fresh n first script c.begun.result) e c.begun.ensures in (
       c.in-default.is,
       record {
-        passes = c.in-ok-check.ensures.0;
+        passes = c.in_ok-check.ensures.0;
         suits = subst (λ n. Suits (plan g.B.Board n first.values script b) (g.B.Board.rails b)) e (c.if-not-suits.ensures.0 refl);
         standing = subst (λ n. Standing (plan g.B.Board n first.values script b) (meaning g.B.Board b)) e (c.if-not-standing.ensures.0 refl);
       },

@@ -2,22 +2,22 @@ use Rattle.std.proofs.Common.{refl, arith}
 use Rattle.sheet.proofs.Rows.{field_at, no_number, all_read}
 use Rattle.sheets.proofs.pins.PinSheetLayout.row.Goals as goal
 
-pub returns-in-err-unit : goal.returns-in-err-unit
-returns-in-err-unit c = rw c.from-residual.ensures (λ m e h. no_number c.args.fields.now _ 0 23 (omega arith) c.in-err-unit.ensures _ e m.unit refl h.unit)
+pub returns-in_err-unit : goal.returns-in_err-unit
+returns-in_err-unit c = rw c.from_residual.ensures (λ m e h. no_number c.args.fields.now _ 0 23 (omega arith) c.in_err-unit.ensures _ e m.unit refl h.unit)
 
-pub returns-in-err-pin : goal.returns-in-err-pin
-returns-in-err-pin c = rw c.from-residual-in-err-pin.ensures (λ m e h. no_number c.args.fields.now _ 1 3 (omega arith) c.in-err-pin.ensures _ e m.pin refl h.pin)
+pub returns-in_err-pin : goal.returns-in_err-pin
+returns-in_err-pin c = rw c.from_residual-in_err-pin.ensures (λ m e h. no_number c.args.fields.now _ 1 3 (omega arith) c.in_err-pin.ensures _ e m.pin refl h.pin)
 
-pub returns-in-err-rail : goal.returns-in-err-rail
-returns-in-err-rail c = rw c.from-residual-in-err-rail.ensures (λ m e h. no_number c.args.fields.now _ 2 23 (omega arith) c.in-err-rail.ensures _ e m.rail refl h.rail)
+pub returns-in_err-rail : goal.returns-in_err-rail
+returns-in_err-rail c = rw c.from_residual-in_err-rail.ensures (λ m e h. no_number c.args.fields.now _ 2 23 (omega arith) c.in_err-rail.ensures _ e m.rail refl h.rail)
 
-pub returns-in-err-way : goal.returns-in-err-way
-returns-in-err-way c = rw c.from-residual-in-err-way.ensures (λ m e h. c.in-err-way.ensures m.way (field_at c.args.fields.now _ 3 _ (omega arith) e))
+pub returns-in_err-way : goal.returns-in_err-way
+returns-in_err-way c = rw c.from_residual-in_err-way.ensures (λ m e h. c.in_err-way.ensures m.way (field_at c.args.fields.now _ 3 _ (omega arith) e))
 
 pub returns : goal.returns
 returns c =
-    let unit = c.in-ok-unit.ensures in
-    let pin = c.in-ok-pin.ensures in
-    let rail = c.in-ok-rail.ensures in
-    let way = c.in-ok-way.ensures in
+    let unit = c.in_ok-unit.ensures in
+    let pin = c.in_ok-pin.ensures in
+    let rail = c.in_ok-rail.ensures in
+    let way = c.in_ok-way.ensures in
     (all_read c.args.fields.now _ _ c.requires (unit.digits, (pin.digits, (rail.digits, (way, tt)))), record { unit = unit.small; pin = pin.small; rail = rail.small })
