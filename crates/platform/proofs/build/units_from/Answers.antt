@@ -7,9 +7,9 @@ use Rattle.platform.proofs.Building.{units_more}
 use Rattle.platform.proofs.build.units_from.Goals as goal
 
 pub loop-unit-preserved : goal.loop-unit-preserved
-loop-unit-preserved c = units_more (rows_of c.args.sheets.now) c.loop-unit.unit (vec_items c.loop-unit.out) _ c.loop-unit.invariant c.in_ok-unit-from.ensures c.in_ok-push.ensures.items
+loop-unit-preserved c = units_more (rows_of c.args.sheets.now) c.loop-unit.unit (vec_items c.loop-unit.out) _ c.loop-unit.invariant c.in_ok-unit_from.ensures c.in_ok-push.ensures.items
 
 pub returns : goal.returns
 returns c =
-    let e : c.loop-unit.unit ≡ c.units-of-unit-end.result = omega arith in
-    c.loop-unit.invariant ∙ ap (λ n. map (unit_from (rows_of c.args.sheets.now)) (range_with_len 0 n)) (e ∙ c.units-of-unit-end.ensures ∙ ap unit_count c.deref.ensures.value)
+    let e : c.loop-unit.unit ≡ c.units_of-unit-end.result = omega arith in
+    c.loop-unit.invariant ∙ ap (λ n. map (unit_from (rows_of c.args.sheets.now)) (range_with_len 0 n)) (e ∙ c.units_of-unit-end.ensures ∙ ap unit_count c.deref.ensures.value)

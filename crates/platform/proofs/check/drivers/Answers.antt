@@ -12,8 +12,8 @@ loop-unit-preserved c =
     let is = unit_is us i c.unit-item.result (omega arith) c.unit-item.is in
     let few = subst PinsCounted is (c.requires.pins i (omega (arith, as_many us))) in
     let same = c.deref.ensures.value in (
-      (λ j. c.loop-unit.invariant.0 j + (c.drivers-among-count.ensures.value ∙ ap (drivers_among c.args.rail) same) j) ∙ drivers_more c.args.rail us i c.unit-item.result (omega arith) c.unit-item.is,
-      omega (arith, c.loop-unit.invariant.1, c.drivers-among-count.ensures.bound, ap length same, few.1),
+      (λ j. c.loop-unit.invariant.0 j + (c.drivers_among-count.ensures.value ∙ ap (drivers_among c.args.rail) same) j) ∙ drivers_more c.args.rail us i c.unit-item.result (omega arith) c.unit-item.is,
+      omega (arith, c.loop-unit.invariant.1, c.drivers_among-count.ensures.bound, ap length same, few.1),
     )
 
 pub returns : goal.returns

@@ -5,8 +5,8 @@ use Rattle.platform.specs.Rules.{PinsCounted, Wired}
 use Rattle.platform.proofs.Checking.{unit_is, as_many}
 use Rattle.platform.proofs.platform.Platform.lowest_unrested.Goals as goal
 
-pub at-rest-requires : goal.at-rest-requires
-at-rest-requires c =
+pub at_rest-requires : goal.at_rest-requires
+at_rest-requires c =
     let p = c.args.self.now in
     let us = vec_items p.units in
     let k = c.loop-unit.unit in
@@ -18,14 +18,14 @@ at-rest-requires c =
       wired = subst (Wired 24) is (λ q h. omega (arith, p.wired k at q h, p.rails_counted.1));
     }
 
-pub returns-then-not-at-rest : goal.returns-then-not-at-rest
-returns-then-not-at-rest c =
+pub returns-then-not-at_rest : goal.returns-then-not-at_rest
+returns-then-not-at_rest c =
     let us = vec_items c.args.self.now.units in
     let lt : c.loop-unit.unit < length us = search rules in
     let is = unit_is us c.loop-unit.unit c.index.result.now lt c.index.ensures in
     record {
       there = omega (arith, as_many us);
-      unrested = λ h. refuted c.if-not-at-rest.true c.at-rest.ensures (subst (λ u. AtRest u c.args.mix.values) is h);
+      unrested = λ h. refuted c.if-not-at_rest.true c.at_rest.ensures (subst (λ u. AtRest u c.args.mix.values) is h);
       lowest = c.loop-unit.invariant;
     }
 
@@ -34,7 +34,7 @@ loop-unit-preserved c =
     let us = vec_items c.args.self.now.units in
     let lt : c.loop-unit.unit < length us = search rules in
     let is = unit_is us c.loop-unit.unit c.index.result.now lt c.index.ensures in
-    below_more (λ (k : ℕ). AtRest (unit_at (devices us) k) c.args.mix.values) c.loop-unit.unit c.loop-unit.invariant (subst (λ u. AtRest u c.args.mix.values) (sym is) (held c.if-not-at-rest.false c.at-rest.ensures))
+    below_more (λ (k : ℕ). AtRest (unit_at (devices us) k) c.args.mix.values) c.loop-unit.unit c.loop-unit.invariant (subst (λ u. AtRest u c.args.mix.values) (sym is) (held c.if-not-at_rest.false c.at_rest.ensures))
 
 pub returns : goal.returns
 returns c =
