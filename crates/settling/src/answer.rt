@@ -46,7 +46,7 @@ fn lows(windows: [Bounds; 24]) -> Mix
 
 // The least choice, what it leaves each rail and what it costs.
 pub fn settle<C: Cost>(platform: &Platform, demands: &[Demand]) -> Result<Settled<C>, SettleFault>
-    ensures { Settles toll platform.now.rails (units_of platform.now) demands.now result }
+    ensures { Settles C.toll platform.now.rails (units_of platform.now) demands.now result }
 {
     if let Some(i) = first_unknown(platform.rails(), demands) {
         return Err(SettleFault::UnknownRail { line: i + 1 });

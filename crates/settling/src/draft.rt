@@ -25,8 +25,8 @@ pub(crate) fn extended<C: Cost>(draft: Draft<C>, unit: &Unit, at: usize, mode: u
     requires modes { ModesCounted (device unit.now) }
     requires wired { Wired 24 (device unit.now) }
     requires mode { mode < length (device unit.now).modes }
-    requires room { Room toll draft.cost (toll.of (mode_at (device unit.now) mode)) }
-    ensures { Extends toll (device unit.now) at mode draft result }
+    requires room { Room C.toll draft.cost (C.toll.of (mode_at (device unit.now) mode)) }
+    ensures { Extends C.toll (device unit.now) at mode draft result }
 {
     let mut modes = draft.modes;
     modes[at] = mode as u8;

@@ -20,7 +20,7 @@ pub(crate) struct Task<'u, 'd> {
 
 // Does what was found cost no more than this already?
 fn reached<C: Cost>(best: Option<Draft<C>>, cost: C) -> bool
-    ensures { Decides result (Reached toll best cost) }
+    ensures { Decides result (Reached C.toll best cost) }
 {
     match best {
         Some(found) => found.cost.at_most(cost),
@@ -38,10 +38,10 @@ pub(crate) fn search<C: Cost>(
 ) -> Option<Draft<C>>
     requires sound { OfPlatform (devices task.units.now) }
     requires within { at ≤ length task.units.now }
-    requires stands { Stands toll (devices task.units.now) task.demands.now at draft }
-    requires found { Found toll (devices task.units.now) task.demands.now best }
+    requires stands { Stands C.toll (devices task.units.now) task.demands.now at draft }
+    requires found { Found C.toll (devices task.units.now) task.demands.now best }
     requires place { Earlier at best draft.modes }
-    ensures { Searched toll (devices task.entry.units.now) task.entry.demands.now at draft.modes best result }
+    ensures { Searched C.toll (devices task.entry.units.now) task.entry.demands.now at draft.modes best result }
 {
     if !all_open(draft.windows) {
         return best;
@@ -71,10 +71,10 @@ fn try_mode<C: Cost>(
     requires sound { OfPlatform (devices task.units.now) }
     requires within { at < length task.units.now }
     requires mode { mode < length (unit_at (devices task.units.now) at).modes }
-    requires stands { Stands toll (devices task.units.now) task.demands.now at draft }
-    requires found { Found toll (devices task.units.now) task.demands.now best }
+    requires stands { Stands C.toll (devices task.units.now) task.demands.now at draft }
+    requires found { Found C.toll (devices task.units.now) task.demands.now best }
     requires place { Earlier (at + 1) best (slice_set draft.modes at mode) }
-    ensures { Searched toll (devices task.entry.units.now) task.entry.demands.now (at + 1) (slice_set draft.modes at mode) best result }
+    ensures { Searched C.toll (devices task.entry.units.now) task.entry.demands.now (at + 1) (slice_set draft.modes at mode) best result }
 {
     let unit = &task.units[at];
     match mode_of(unit, mode).kind {

@@ -11,5 +11,5 @@ pub fn hopeless_exactly()
 
 // There is one answer only.
 pub fn settled_once<C: Cost>()
-    ensures { SettledOnce toll }
+    ensures { SettledOnce C.toll }
 {}

@@ -10,7 +10,7 @@ use platform::{Platform, Unit};
 
 // What the unit costs in the mode: nothing where it lacks that mode.
 fn mode_cost<C: Cost>(unit: &Unit, mode: usize) -> C
-    ensures { result ≡ toll.of (mode_at (device unit.now) mode) }
+    ensures { result ≡ C.toll.of (mode_at (device unit.now) mode) }
 {
     if mode < unit.modes.len() {
         C::of(mode_of(unit, mode))
@@ -21,7 +21,7 @@ fn mode_cost<C: Cost>(unit: &Unit, mode: usize) -> C
 
 // The cost of one mode for each unit.
 pub fn cost_of<C: Cost>(platform: &Platform, modes: [u8; 24]) -> C
-    ensures { result ≡ cost toll (units_of platform.now) modes }
+    ensures { result ≡ cost C.toll (units_of platform.now) modes }
 {
     let units = platform.units();
     let mut sum = C::nothing();

@@ -19,7 +19,7 @@ search-requires g c =
 pub returns-in-None : goal.returns-in-None
 returns-in-None g c =
     let demands = c.args.demands.now in
-    let known = subst (λ n. Known n demands) c.rails.ensures c.in-default.ensures in
+    let known = subst (λ n. Known n demands) c.rails.ensures c.in_default.ensures in
     let none = settled_none g.C.Cost.toll (devices c.units.result.now) demands _ c.units.ensures.sound (replicate 24 0) c.in-None.ensures in
     (known, subst (λ (us : List Unit). Hopeless (devices us) demands) c.units.ensures.value none)
 
@@ -27,7 +27,7 @@ pub returns-in-Some-search : goal.returns-in-Some-search
 returns-in-Some-search g c =
     let demands = c.args.demands.now in
     let rails = c.args.platform.now.rails in
-    let known = subst (λ n. Known n demands) c.rails.ensures c.in-default.ensures in
+    let known = subst (λ n. Known n demands) c.rails.ensures c.in_default.ensures in
     let long : length c.lows.result.values ≡ 24 = search rules in
     let settled = settled_some g.C.Cost.toll (devices c.units.result.now) demands rails c.units.ensures.sound (replicate 24 0) known c.in-Some-search.found c.lows.result c.lows.ensures long c.in-Some-search.ensures in
     rw c.units.ensures.value at settled

@@ -9,10 +9,10 @@ use Rattle.settling.proofs.Drafts.{place, room_more, stands_more}
 use Rattle.settling.proofs.Searches.{skipped, closed, not_rest, pruned, leaf, tried_none, tried_more, tried_all}
 use Rattle.settling.proofs.search.+search_try_mode.Goals as goal
 
-pub search-returns-then-not-all-open : goal.search-returns-then-not-all-open
-search-returns-then-not-all-open g t c =
+pub search-returns-then-not-all_open : goal.search-returns-then-not-all_open
+search-returns-then-not-all_open g t c =
     let many = as_many c.args.task.units.now in
-    let shut = not_from_Decides c.all-open.result c.all-open.ensures c.if-not-all-open.true in
+    let shut = not_from_Decides c.all_open.result c.all_open.ensures c.if-not-all_open.true in
     skipped c.args.best c.requires.found c.requires.place (closed (omega (arith, c.requires.within)) c.requires.stands shut)
 
 pub search-returns-then-reached : goal.search-returns-then-reached
@@ -24,7 +24,7 @@ pub search-returns-then-at-task : goal.search-returns-then-at-task
 search-returns-then-at-task g t c =
     let last = c.if-at-task.true ∙ sym (as_many c.args.task.units.now) in
     let short = not_from_Decides c.reached.result c.reached.ensures c.if-reached.false in
-    leaf g.C.Cost.laws c.args.best last c.requires.stands (c.all-open.ensures.0 c.if-not-all-open.false) short
+    leaf g.C.Cost.laws c.args.best last c.requires.stands (c.all_open.ensures.0 c.if-not-all_open.false) short
 
 pub search-loop-mode-init : goal.search-loop-mode-init
 search-loop-mode-init g t c =
@@ -32,8 +32,8 @@ search-loop-mode-init g t c =
     let lt : c.args.at < length (devices c.args.task.units.now) = omega (arith, c.requires.within) in
     tried_none (place c.requires.sound c.requires.stands lt) c.args.best c.requires.found c.requires.place
 
-pub search-try-mode-found-requires : goal.search-try-mode-found-requires
-search-try-mode-found-requires g t c κs within =
+pub search-try_mode-found-requires : goal.search-try_mode-found-requires
+search-try_mode-found-requires g t c κs within =
     let us = c.args.task.units.now in
     let lt : c.args.at < length us = omega (arith, c.requires.within) in
     let is = unit_is us c.args.at c.index-task-at.result lt c.index-task-at.is in
@@ -45,7 +45,7 @@ search-loop-mode-preserved g t c =
     let us = c.args.task.units.now in
     let many = as_many us in
     let lt : c.args.at < length (devices us) = omega (arith, c.requires.within) in
-    tried_more {units = devices us} {demands = c.args.task.demands.now} {modes = c.args.draft.modes} (place c.requires.sound c.requires.stands lt) {old = c.args.best} c.loop-mode.invariant c.try-mode-found.ensures
+    tried_more {units = devices us} {demands = c.args.task.demands.now} {modes = c.args.draft.modes} (place c.requires.sound c.requires.stands lt) {old = c.args.best} c.loop-mode.invariant c.try_mode-found.ensures
 
 pub search-returns : goal.search-returns
 search-returns g t c =
@@ -57,13 +57,13 @@ search-returns g t c =
     let next : c.args.at < length (devices us) = omega arith in
     tried_all (place c.requires.sound c.requires.stands next) next (rw is all) c.loop-mode.invariant
 
-pub try-mode-mode-of-requires : goal.try-mode-mode-of-requires
-try-mode-mode-of-requires g t c =
+pub try_mode-mode_of-requires : goal.try_mode-mode_of-requires
+try_mode-mode_of-requires g t c =
     let us = c.args.task.units.now in
     rw (unit_read us c.args.at c.index-task-at.result c.requires.within) at c.requires.mode
 
-pub try-mode-extended-requires : goal.try-mode-extended-requires
-try-mode-extended-requires g t c =
+pub try_mode-extended-requires : goal.try_mode-extended-requires
+try_mode-extended-requires g t c =
     let us = c.args.task.units.now in
     let at = c.args.at in
     let many = as_many us in
@@ -80,8 +80,8 @@ try-mode-extended-requires g t c =
       room = rw is at (room_more c.requires.sound c.requires.stands next g.C.Cost.laws c.args.mode);
     }
 
-pub try-mode-search-requires : goal.try-mode-search-requires
-try-mode-search-requires g t c κs within =
+pub try_mode-search-requires : goal.try_mode-search-requires
+try_mode-search-requires g t c κs within =
     let us = c.args.task.units.now in
     let at = c.args.at in
     let many = as_many us in
@@ -93,8 +93,8 @@ try-mode-search-requires g t c κs within =
     let early = subst (λ (ms : List ℕ). Earlier (at + 1) c.args.best ms) (sym extends.modes) c.requires.place in
     (search rules, (within, (c.requires.sound, (omega (arith, c.requires.within), (more, (c.requires.found, early))))))
 
-pub try-mode-returns-in-Pass : goal.try-mode-returns-in-Pass
-try-mode-returns-in-Pass g t c =
+pub try_mode-returns-in-Pass : goal.try_mode-returns-in-Pass
+try_mode-returns-in-Pass g t c =
     let us = c.args.task.units.now in
     let at = c.args.at in
     let many = as_many us in
@@ -103,6 +103,6 @@ try-mode-returns-in-Pass g t c =
     let next : at < length (devices us) = omega (arith, c.requires.within) in
     skipped c.args.best c.requires.found c.requires.place (not_rest (devices us) c.args.task.demands.now at c.args.mode c.args.draft.modes next (place c.requires.sound c.requires.stands next) pass)
 
-pub try-mode-returns-in-Rest : goal.try-mode-returns-in-Rest
-try-mode-returns-in-Rest g t c =
+pub try_mode-returns-in-Rest : goal.try_mode-returns-in-Rest
+try_mode-returns-in-Rest g t c =
     rw c.extended.ensures.modes at c.search.ensures

@@ -20,7 +20,7 @@ plus-sum-requires g c =
     let many = as_many us in
     let is = unit_is us k c.index-units-k.result c.loop-k-test.true c.index-units-k.is in
     let so_far : cost_to t (devices us) k c.args.modes ≡ c.loop-k.sum = sym c.loop-k.invariant in
-    let next : t.of (mode_at (unit_at (devices us) k) (mode_of c.args.modes k)) ≡ c.mode-cost.result = cc in
+    let next : t.of (mode_at (unit_at (devices us) k) (mode_of c.args.modes k)) ≡ c.mode_cost.result = cc in
     rw (so_far, next) at (cost_room g.C.Cost.laws (devices us) sound.mild sound.units_counted.1 k (omega arith) c.args.modes (mode_of c.args.modes k))
 
 pub loop-k-preserved : goal.loop-k-preserved
@@ -30,7 +30,7 @@ loop-k-preserved g c =
     let k = c.loop-k.k in
     let is = unit_is us k c.index-units-k.result c.loop-k-test.true c.index-units-k.is in
     let so_far : cost_to t (devices us) k c.args.modes ≡ c.loop-k.sum = sym c.loop-k.invariant in
-    let next : t.of (mode_at (unit_at (devices us) k) (mode_of c.args.modes k)) ≡ c.mode-cost.result = cc in
+    let next : t.of (mode_at (unit_at (devices us) k) (mode_of c.args.modes k)) ≡ c.mode_cost.result = cc in
     c.plus-sum.ensures ∙ rw (so_far, next) at (cost_next g.C.Cost.laws (devices us) k c.args.modes)
 
 pub returns : goal.returns

@@ -16,7 +16,7 @@ loop-pin-preserved c =
     let left = c.loop-pin.left in
     let pin : p < length u.pins = search rules in
     let more = pin_more u m p c.args.windows left c.loop-pin.invariant.0 (c.requires.wired p pin) c.loop-pin.invariant.1 in
-    let e : set left (rail_at u p) (shared (bounds_at left (rail_at u p)) (pin_bounds u m p)) ≡ set left c.rail-of-rail.result c.common.result = cc in
+    let e : set left (rail_at u p) (shared (bounds_at left (rail_at u p)) (pin_bounds u m p)) ≡ set left c.rail_of-rail.result c.common.result = cc in
     (search rules, subst (λ (ws : List Bounds). Hold (StillTo (p + 1) u m c.args.windows) ws) e more)
 
 pub returns : goal.returns

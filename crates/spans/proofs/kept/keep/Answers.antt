@@ -5,4 +5,4 @@ use Rattle.spans.proofs.kept.keep.Goals as goal
 
 pub loop-mode-preserved : goal.loop-mode-preserved
 loop-mode-preserved c =
-    (search rules, keeps_more (device c.args.unit.now) c.args.pin c.args.value c.loop-mode.mode c.args.alive c.loop-mode.kept c.bounds-of-low.result c.bounds-of-low.ensures (omega arith) c.loop-mode.invariant.1)
+    (search rules, keeps_more (device c.args.unit.now) c.args.pin c.args.value c.loop-mode.mode c.args.alive c.loop-mode.kept c.bounds_of-low.result c.bounds_of-low.ensures (omega arith) c.loop-mode.invariant.1)

@@ -13,7 +13,7 @@ loop-mode-preserved c =
     let P : ℕ → Type 0 = λ m. Marked kept m → far ≤ (pin_bounds (device c.args.unit.now) m c.args.pin).high in
     elim c.if-kept-mode.branch [
       | then-kept-mode w ↦
-          let high = ap (λ s. s.high) w.bounds-of.ensures in
+          let high = ap (λ s. s.high) w.bounds_of.ensures in
           let here : P n = λ _. omega arith in
           (omega arith, below_more P n (λ m h on. omega (arith, c.loop-mode.invariant.1 m h on)) here, λ v top under. omega (arith, under n (omega arith) w.if-kept-mode.true, c.loop-mode.invariant.2 v top (λ m h on. under m (omega arith) on)))
       | else-kept-mode w ↦

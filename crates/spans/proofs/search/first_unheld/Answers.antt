@@ -8,8 +8,8 @@ zeros zero p = refl
 zeros (suc n) zero = refl
 zeros (suc n) (suc p) = zeros n p
 
-pub go-on-requires : goal.go-on-requires
-go-on-requires c = record {
+pub go_on-requires : goal.go_on-requires
+go_on-requires c = record {
   pins = c.requires.pins;
   modes = c.requires.modes;
   wired = c.requires.wired;

@@ -9,5 +9,5 @@ pub returns : goal.returns
 returns c =
     let rails = c.args.platform.now.rails in
     let spans = c.args.spans.now in
-    subst (λ (u : Device). MatchOption c.first-unheld.result (SafeFor rails spans u) (λ values. BadValues rails spans u values)) c.unit-of.ensures.is
-    (judged rails spans (device c.unit-of.result.now) c.requires.spans c.unit-of.ensures.apart c.unit-of.ensures.wired (values_of (replicate 4 0)) c.first-unheld.result c.first-unheld.ensures)
+    subst (λ (u : Device). MatchOption c.first_unheld.result (SafeFor rails spans u) (λ values. BadValues rails spans u values)) c.unit_of.ensures.is
+    (judged rails spans (device c.unit_of.result.now) c.requires.spans c.unit_of.ensures.apart c.unit_of.ensures.wired (values_of (replicate 4 0)) c.first_unheld.result c.first_unheld.ensures)
