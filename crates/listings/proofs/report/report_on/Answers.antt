@@ -6,8 +6,8 @@ use Rattle.listings.specs.Reports.{stopped, starved}
 use Rattle.listings.proofs.Starved.{starved_says}
 use Rattle.listings.proofs.report.report_on.Goals as goal
 
-pub returns-in_ok-refusal-text : goal.returns-in_ok-refusal-text
-returns-in_ok-refusal-text c =
+pub returns-in_ok-refusal_text : goal.returns-in_ok-refusal_text
+returns-in_ok-refusal_text c =
     let f = c.in-Err.fault in
     let is = c.in_ok-refusal-text.ensures in
     ⊎_elim

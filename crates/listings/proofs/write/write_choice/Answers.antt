@@ -8,8 +8,8 @@ use Rattle.listings.specs.Texts.{units_text, rails_text, total_text}
 use Rattle.listings.proofs.Lines.{both}
 use Rattle.listings.proofs.write.write_choice.Goals as goal
 
-pub write-units-requires : goal.write-units-requires
-write-units-requires c = omega (arith, c.units.ensures.sound.units_counted.1, as_many c.units.result.now)
+pub write_units-requires : goal.write_units-requires
+write_units-requires c = omega (arith, c.units.ensures.sound.units_counted.1, as_many c.units.result.now)
 
 pub returns : goal.returns
 returns c =
@@ -17,7 +17,7 @@ returns c =
     let units = units_text c.args.modes (length (units_of p)) in
     let rails = rails_text c.args.windows c.args.targets.values p.rails in
     both (string_bytes c.args.out.now) (total_text (cost heat_toll (units_of p) c.args.modes)) (units ++ rails)
-    (c.in_ok-write-total.ensures ∙ ap (λ t. string_bytes c.args.out.now ++ total_text t) c.cost-of-total.ensures)
-    (both (string_bytes c.write-total.new.out) units rails
-    (c.in_ok-write-units.ensures ∙ ap (λ n. string_bytes c.write-total.new.out ++ units_text c.args.modes n) (ap length c.units.ensures.value ∙ sym (as_many (vec_items p.units))))
-    (c.in_ok-write-rails.ensures ∙ ap (λ n. string_bytes c.write-units.new.out ++ rails_text c.args.windows c.args.targets.values n) c.rails.ensures))
+    (c.in_ok-write_total.ensures ∙ ap (λ t. string_bytes c.args.out.now ++ total_text t) c.cost_of-total.ensures)
+    (both (string_bytes c.write_total.new.out) units rails
+    (c.in_ok-write_units.ensures ∙ ap (λ n. string_bytes c.write_total.new.out ++ units_text c.args.modes n) (ap length c.units.ensures.value ∙ sym (as_many (vec_items p.units))))
+    (c.in_ok-write_rails.ensures ∙ ap (λ n. string_bytes c.write_units.new.out ++ rails_text c.args.windows c.args.targets.values n) c.rails.ensures))
