@@ -6,8 +6,8 @@ use Rattle.scripts.proofs.rails.rail_at.Goals as goal
 
 pub loop-k-preserved : goal.loop-k-preserved
 loop-k-preserved c =
-    after_more (value_of c.args.first.now.values) c.args.script.now c.loop-k.k c.args.rail _ _ c.loop-k.state c.stepped-rail-state.result
-    (omega (arith, c.loop-k-test.true, c.min-k-end.ensures)) refl c.loop-k.invariant c.stepped-rail-state.ensures
+    after_more (value_of c.args.first.now.values) c.args.script.now c.loop-k.k c.args.rail _ _ c.loop-k.state c.stepped_rail-state.result
+    (omega (arith, c.loop-k-test.true, c.min-k-end.ensures)) refl c.loop-k.invariant c.stepped_rail-state.ensures
 
 pub returns : goal.returns
 returns c =

@@ -6,4 +6,4 @@ use Rattle.scripts.proofs.rest.last_restless.Goals as goal
 pub returns : goal.returns
 returns c =
     let p = c.args.platform.now in
-    last_said (model_of p) p.wired c.args.last.values c.lowest-unrested.result c.lowest-unrested.ensures (value_of c.args.first.now.values) c.args.script.now c.requires
+    last_said (model_of p) p.wired c.args.last.values c.lowest_unrested.result c.lowest_unrested.ensures (value_of c.args.first.now.values) c.args.script.now c.requires

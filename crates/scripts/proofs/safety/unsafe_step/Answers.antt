@@ -7,22 +7,22 @@ use Rattle.histories.proofs.Spans.{safety_exact}
 use Rattle.scripts.specs.Checking.{spans_of}
 use Rattle.scripts.proofs.Mixes.{bad_same, spans_same}
 use Rattle.scripts.proofs.safety.unsafe_step.Goals as goal
-use Rattle.scripts.proofs.safety.unsafe_step.Goals.{After-spans-after-spans}
+use Rattle.scripts.proofs.safety.unsafe_step.Goals.{After-spans_after-spans}
 
 -- the spans are those of the platform's rails after the step
-shown : (c : After-spans-after-spans) → SpansOf c.args.platform.now.rails (after (value_of c.args.first.now.values) c.args.script.now (suc c.loop-step.step)) c.spans-after-spans.result
+shown : (c : After-spans_after-spans) → SpansOf c.args.platform.now.rails (after (value_of c.args.first.now.values) c.args.script.now (suc c.loop-step.step)) c.spans_after-spans.result
 shown c r lt =
-    subst (λ (k : ℕ). SpansOf 24 (after (value_of c.args.first.now.values) c.args.script.now k) c.spans-after-spans.result) (add-one c.loop-step.step) c.spans-after-spans.ensures r
+    subst (λ (k : ℕ). SpansOf 24 (after (value_of c.args.first.now.values) c.args.script.now k) c.spans_after-spans.result) (add-one c.loop-step.step) c.spans_after-spans.ensures r
     (omega (arith, lt, c.args.platform.now.rails_counted.1))
 
 pub returns-in-Some : goal.returns-in-Some
 returns-in-Some c =
     let m = model_of c.args.platform.now in
     let rails = after (value_of c.args.first.now.values) c.args.script.now (suc c.loop-step.step) in
-    let spans = c.spans-after-spans.result in
+    let spans = c.spans_after-spans.result in
     record {
       there = c.loop-step-test.true;
-      bad = bad_same m spans (spans_of m.rails rails) (spans_same m.rails rails spans (shown (goal.at.returns-in-Some c).After-spans-after-spans)) c.in-Some.bad.unit c.in-Some.bad.values c.in-Some.ensures;
+      bad = bad_same m spans (spans_of m.rails rails) (spans_same m.rails rails spans (shown (goal.at.returns-in-Some c).After-spans_after-spans)) c.in-Some.bad.unit c.in-Some.bad.values c.in-Some.ensures;
       before = c.loop-step.invariant;
     }
 
@@ -31,7 +31,7 @@ loop-step-preserved c =
     let m = model_of c.args.platform.now in
     let at : ℕ → ℕ → _ = after (value_of c.args.first.now.values) c.args.script.now in
     below_more (λ j. Safe m.rails m.units (at (suc j))) c.loop-step.step c.loop-step.invariant
-    ((safety_exact m.rails m.units (at (suc c.loop-step.step)) c.spans-after-spans.result (shown (goal.at.loop-step-preserved c).After-spans-after-spans)).0 c.in-default.ensures)
+    ((safety_exact m.rails m.units (at (suc c.loop-step.step)) c.spans_after-spans.result (shown (goal.at.loop-step-preserved c).After-spans_after-spans)).0 c.in_default.ensures)
 
 pub returns : goal.returns
 returns c k l = c.loop-step.invariant k (omega (arith, c.loop-step-test.false))
