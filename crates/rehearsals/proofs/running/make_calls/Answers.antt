@@ -12,16 +12,16 @@ returns-in-Empty g c =
     let v = c.loop-i.invariant in
     record {
       whole = inr (omega (arith, c.loop-i-test.true, c.min-room.ensures), c.in-Empty.is);
-      noted = noted_more g.B.Board c.args.run.now c.args.board.now c.args.calls.now c.args.log.now c.loop-i.log c.loop-i.i c.loop-i.run c.make-call-outcome.new.run c.loop-i.board c.make-call-outcome.new.board Advance c.note.result c.make-call-outcome.result
-          (omega (arith, c.loop-i-test.true, c.min-room.ensures)) (omega (arith, c.loop-i-test.true, c.min-room.ensures, c.loop-i.auto.log)) v.0 v.1 c.make-call-outcome.ensures c.note.ensures.outcome c.note.ensures.shows;
+      noted = noted_more g.B.Board c.args.run.now c.args.board.now c.args.calls.now c.args.log.now c.loop-i.log c.loop-i.i c.loop-i.run c.make_call-outcome.new.run c.loop-i.board c.make_call-outcome.new.board Advance c.note.result c.make_call-outcome.result
+          (omega (arith, c.loop-i-test.true, c.min-room.ensures)) (omega (arith, c.loop-i-test.true, c.min-room.ensures, c.loop-i.auto.log)) v.0 v.1 c.make_call-outcome.ensures c.note.ensures.outcome c.note.ensures.shows;
     }
 
 pub loop-i-preserved : goal.loop-i-preserved
 loop-i-preserved g c =
     let v = c.loop-i.invariant in (
-      (c.in-default.field-0, c.in-default.is),
-      noted_more g.B.Board c.args.run.now c.args.board.now c.args.calls.now c.args.log.now c.loop-i.log c.loop-i.i c.loop-i.run c.make-call-outcome.new.run c.loop-i.board c.make-call-outcome.new.board Advance c.note.result c.make-call-outcome.result
-          (omega (arith, c.loop-i-test.true, c.min-room.ensures)) (omega (arith, c.loop-i-test.true, c.min-room.ensures, c.loop-i.auto.log)) v.0 v.1 c.make-call-outcome.ensures c.note.ensures.outcome c.note.ensures.shows,
+      (c.in_default.field-0, c.in_default.is),
+      noted_more g.B.Board c.args.run.now c.args.board.now c.args.calls.now c.args.log.now c.loop-i.log c.loop-i.i c.loop-i.run c.make_call-outcome.new.run c.loop-i.board c.make_call-outcome.new.board Advance c.note.result c.make_call-outcome.result
+          (omega (arith, c.loop-i-test.true, c.min-room.ensures)) (omega (arith, c.loop-i-test.true, c.min-room.ensures, c.loop-i.auto.log)) v.0 v.1 c.make_call-outcome.ensures c.note.ensures.outcome c.note.ensures.shows,
     )
 
 pub returns : goal.returns

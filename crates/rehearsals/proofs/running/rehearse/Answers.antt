@@ -4,8 +4,8 @@ use Rattle.platform.specs.Rules.{Sound}
 use Rattle.promises.proofs.Promises.{promised}
 use Rattle.rehearsals.proofs.running.rehearse.Goals as goal
 
-pub make-calls-requires : goal.make-calls-requires
-make-calls-requires g c = let new = c.in_ok-open.ensures.2 in (new.journey, new.is)
+pub make_calls-requires : goal.make_calls-requires
+make_calls-requires g c = let new = c.in_ok-open.ensures.2 in (new.journey, new.is)
 
 pub returns : goal.returns
 returns g c =
@@ -25,5 +25,5 @@ returns g c =
       driven = p.driven;
     } in (
       (c.open.new.self, opens),
-      promised g.B.Board (model_of p) c.args.first.now c.args.script.now b sound (g.met.B.Board.stands b) opens.1 c.args.calls.now c.args.log.now c.make-calls.new.log c.make-calls.result c.open.new.self c.make-calls.new.run c.make-calls.new.board opens.2 c.make-calls.ensures.whole c.make-calls.ensures.noted,
+      promised g.B.Board (model_of p) c.args.first.now c.args.script.now b sound (g.met.B.Board.stands b) opens.1 c.args.calls.now c.args.log.now c.make_calls.new.log c.make_calls.result c.open.new.self c.make_calls.new.run c.make_calls.new.board opens.2 c.make_calls.ensures.whole c.make_calls.ensures.noted,
     )

@@ -6,6 +6,6 @@ use Rattle.runs.proofs.suit.suits.Goals as goal
 
 pub returns : goal.returns
 returns g c =
-    let low = subst (λ t. (i : ℕ) → i < c.args.rails → value_of c.args.first.now.values i ≤ t) c.top.ensures (c.if-not-values-low.ensures.0 refl) in
-    let says = subst (λ t. Decides c.targets-low.result (All (Low t) c.args.script.now)) c.top-2.ensures c.targets-low.ensures in
+    let low = subst (λ t. (i : ℕ) → i < c.args.rails → value_of c.args.first.now.values i ≤ t) c.top.ensures (c.if-not-values_low.ensures.0 refl) in
+    let says = subst (λ t. Decides c.targets_low.result (All (Low t) c.args.script.now)) c.top-2.ensures c.targets_low.ensures in
     (λ e. record { counted = sym c.count.ensures ∙ c.if-count-rails.false; values = low; targets = says.0 e }, λ h. says.1 h.targets)

@@ -6,13 +6,13 @@ use Rattle.histories.specs.declared.step.Step.TheVariants.{Start}
 use Rattle.openings.specs.Openings.{Low}
 use Rattle.runs.proofs.suit.targets_low.Goals as goal
 
-pub returns-then-not-step-low : goal.returns-then-not-step-low
-returns-then-not-step-low c =
-    (λ e. let z : ◌≡◌ {A = ℕ} 0 1 = cc in absurd (omega arith), λ h. c.if-not-step-low.ensures.1 (All-get_or (Low c.args.top) c.args.script.now c.loop-k.k (Start 0 0) c.loop-k-test.true h))
+pub returns-then-not-step_low : goal.returns-then-not-step_low
+returns-then-not-step_low c =
+    (λ e. let z : ◌≡◌ {A = ℕ} 0 1 = cc in absurd (omega arith), λ h. c.if-not-step_low.ensures.1 (All-get_or (Low c.args.top) c.args.script.now c.loop-k.k (Start 0 0) c.loop-k-test.true h))
 
 pub loop-k-preserved : goal.loop-k-preserved
 loop-k-preserved c =
-    All-more (Low c.args.top) c.args.script.now c.loop-k.k (Start 0 0) c.loop-k-test.true c.loop-k.invariant (c.if-not-step-low.ensures.0 refl)
+    All-more (Low c.args.top) c.args.script.now c.loop-k.k (Start 0 0) c.loop-k-test.true c.loop-k.invariant (c.if-not-step_low.ensures.0 refl)
 
 pub returns : goal.returns
 returns c =

@@ -11,17 +11,17 @@ pub bounds-self-rail : goal.bounds-self-rail
 bounds-self-rail c =
     let j = c.args.self.now in
     let w = ahead (script_of j) j.place c.args.step c.requires in
-    omega (arith, c.rail-of-rail.ensures, rail_here j.rails j.place (script_of j) j.known w.1, j.few)
+    omega (arith, c.rail_of-rail.ensures, rail_here j.rails j.place (script_of j) j.known w.1, j.few)
 
-pub step-to-requires : goal.step-to-requires
-step-to-requires c =
+pub step_to-requires : goal.step_to-requires
+step_to-requires c =
     let j = c.args.self.now in
     let w = ahead (script_of j) j.place c.args.step c.requires in
     let lt = rail_here j.rails j.place (script_of j) j.known w.1 in
     let le : j.count ≤ length j.steps = omega (arith, j.held, j.sized.1) in
     let few : rail_of c.args.step < length j.records = omega (arith, lt, j.few, j.sized.0) in
     record {
-      rail = omega (arith, c.rail-of-rail.ensures, lt);
+      rail = omega (arith, c.rail_of-rail.ensures, lt);
       place = omega (arith, (step_here j.place (script_of j) (Start 0 0) w.1).0, length-take-le j.count j.steps le);
-      recorded = rw c.rail-of-rail.ensures (records_on j.rails (value_of j.first.values) (script_of j) j.place j.records c.args.step w.0 w.1 few c.stepped-rail-state.result lt j.recorded (rw c.rail-of-rail.ensures at c.stepped-rail-state.ensures));
+      recorded = rw c.rail_of-rail.ensures (records_on j.rails (value_of j.first.values) (script_of j) j.place j.records c.args.step w.0 w.1 few c.stepped_rail-state.result lt j.recorded (rw c.rail_of-rail.ensures at c.stepped_rail-state.ensures));
     }

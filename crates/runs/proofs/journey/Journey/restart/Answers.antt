@@ -2,7 +2,7 @@ use Rattle.std.proofs.Common.{◌≡◌, [], sym, refl, ◌∙◌, arith}
 use Rattle.openings.specs.Runs.{none}
 use Rattle.runs.proofs.Turns.{towards_low, restart_pass, restart_send}
 use Rattle.runs.proofs.journey.Journey.restart.Goals as goal
-use Rattle.runs.proofs.journey.Journey.restart.Goals.{in-Moving, in-default}
+use Rattle.runs.proofs.journey.Journey.restart.Goals.{in-Moving, in_default}
 
 pub loop-rail-init : goal.loop-rail-init
 loop-rail-init g c = (refl, refl, ([], none))
@@ -13,7 +13,7 @@ send-requires g c =
     let i = c.loop-rail.rail in
     record {
       rail = omega (arith, c.loop-rail-test.true, c.loop-rail.invariant.0, c.requires.counted);
-      low = omega (arith, c.end-towards.ensures, towards_low g.B.Board j c.args.board.now c.requires c.args.direction i c.in-Moving.origin c.in-Moving.target c.loop-rail-test.true (sym (j.recorded i c.loop-rail-test.true) ∙ sym c.record.ensures ∙ c.in-Moving.is));
+      low = omega (arith, c.end_towards.ensures, towards_low g.B.Board j c.args.board.now c.requires c.args.direction i c.in-Moving.origin c.in-Moving.target c.loop-rail-test.true (sym (j.recorded i c.loop-rail-test.true) ∙ sym c.record.ensures ∙ c.in-Moving.is));
     }
 
 pub loop-rail-preserved : goal.loop-rail-preserved
@@ -25,9 +25,9 @@ loop-rail-preserved g c =
       | in-Moving w ↦ rw w.board-is (
         w.send.ensures.rails ∙ v.0,
         w.send.ensures.patience ∙ v.1,
-        restart_send w.in-Moving.origin w.in-Moving.target w.end-towards.result (was ∙ w.in-Moving.is) w.end-towards.ensures w.send.ensures v.2,
+        restart_send w.in-Moving.origin w.in-Moving.target w.end_towards.result (was ∙ w.in-Moving.is) w.end_towards.ensures w.send.ensures v.2,
       )
-      | in-default w ↦ rw w.board-is (v.0, v.1, restart_pass w.in-default.field-0 (was ∙ w.in-default.is) v.2)
+      | in_default w ↦ rw w.board-is (v.0, v.1, restart_pass w.in_default.field-0 (was ∙ w.in_default.is) v.2)
     ]
 
 pub returns : goal.returns

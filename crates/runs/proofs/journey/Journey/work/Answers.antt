@@ -55,42 +55,42 @@ pub returns-in-Forward-Some-Start : goal.returns-in-Forward-Some-Start
 returns-in-Forward-Some-Start g c =
     let w = c.in-Forward-Some-Start in
     let is : Some (Start w.rail w.target) ≡ current (script_of c.args.self.now) c.args.self.now.place c.args.self.now.direction = search rules in
-    let p = c.go-on.ensures in
-    moved_on g.B.Board c.args.self.now c.go-on.new.self c.args.board.now c.send.new.board (Start w.rail w.target) is w.is-0 p.place p.direction p.same
+    let p = c.go_on.ensures in
+    moved_on g.B.Board c.args.self.now c.go_on.new.self c.args.board.now c.send.new.board (Start w.rail w.target) is w.is-0 p.place p.direction p.same
     (λ rest e. start_ahead e c.send.ensures)
 
 pub returns-else-not-ask : goal.returns-else-not-ask
 returns-else-not-ask g c =
     let w = c.in-Forward-Some-Wait in
     let is : Some (Wait w.rail) ≡ current (script_of c.args.self.now) c.args.self.now.place c.args.self.now.direction = search rules in
-    let p = c.go-on-in-Forward-Some-Wait.ensures in
-    moved_on g.B.Board c.args.self.now c.go-on-in-Forward-Some-Wait.new.self c.args.board.now c.ask.new.board (Wait w.rail) is w.is-0 p.place p.direction p.same
+    let p = c.go_on-in-Forward-Some-Wait.ensures in
+    moved_on g.B.Board c.args.self.now c.go_on-in-Forward-Some-Wait.new.self c.args.board.now c.ask.new.board (Wait w.rail) is w.is-0 p.place p.direction p.same
     (λ rest e. wait_ahead e c.if-not-ask.ensures)
 
 pub returns-in-Backward-Some-Wait : goal.returns-in-Backward-Some-Wait
 returns-in-Backward-Some-Wait g c =
     let w = c.in-Backward-Some-Wait in
     let is : Some (Wait w.rail) ≡ current (script_of c.args.self.now) c.args.self.now.place c.args.self.now.direction = search rules in
-    let p = c.go-back.ensures in
-    moved_back g.B.Board c.args.self.now c.go-back.new.self c.args.board.now c.send-in-Backward-Some-Wait.new.board (Wait w.rail) is w.is-0 p.place p.direction p.same
+    let p = c.go_back.ensures in
+    moved_back g.B.Board c.args.self.now c.go_back.new.self c.args.board.now c.send-in-Backward-Some-Wait.new.board (Wait w.rail) is w.is-0 p.place p.direction p.same
     (λ rest e. wait_back e (rw (c.origin_of.ensures ∙ ap origin_of c.before-in-Backward-Some-Wait.ensures) at c.send-in-Backward-Some-Wait.ensures))
 
 pub returns-else-not-ask-2 : goal.returns-else-not-ask-2
 returns-else-not-ask-2 g c =
     let w = c.in-Backward-Some-Start in
     let is : Some (Start w.rail w.target) ≡ current (script_of c.args.self.now) c.args.self.now.place c.args.self.now.direction = search rules in
-    let p = c.go-back-in-Backward-Some-Start.ensures in
-    moved_back g.B.Board c.args.self.now c.go-back-in-Backward-Some-Start.new.self c.args.board.now c.ask-in-Backward-Some-Start.new.board (Start w.rail w.target) is w.is-0 p.place p.direction p.same
+    let p = c.go_back-in-Backward-Some-Start.ensures in
+    moved_back g.B.Board c.args.self.now c.go_back-in-Backward-Some-Start.new.self c.args.board.now c.ask-in-Backward-Some-Start.new.board (Start w.rail w.target) is w.is-0 p.place p.direction p.same
     (λ rest e. start_back e c.if-not-ask-2.ensures)
 
-pub returns-in-default-None : goal.returns-in-default-None
-returns-in-default-None g c =
+pub returns-in_default-None : goal.returns-in_default-None
+returns-in_default-None g c =
     let j = c.args.self.now in
     let le : j.count ≤ length j.steps = omega (arith, j.held, j.sized.1) in
-    arrived g.B.Board j c.args.board.now le (sym c.in-default-None.is-1 ∙ c.current.ensures)
+    arrived g.B.Board j c.args.board.now le (sym c.in_default-None.is-1 ∙ c.current.ensures)
 
-pub returns-in-default-None·2 : goal.returns-in-default-None·2
-returns-in-default-None·2 g c =
+pub returns-in_default-None-2 : goal.returns-in_default-None-2
+returns-in_default-None-2 g c =
     let j = c.args.self.now in
     let le : j.count ≤ length j.steps = omega (arith, j.held, j.sized.1) in
-    arrived g.B.Board j c.args.board.now le (sym c.in-default-None.is-1 ∙ c.current.ensures)
+    arrived g.B.Board j c.args.board.now le (sym c.in_default-None.is-1 ∙ c.current.ensures)

@@ -3,8 +3,8 @@ use Rattle.histories.specs.declared.run.Call.TheVariants.{Advance}
 use Rattle.runs.proofs.Outcomes.{on_empty, on_unsuited, on_advance}
 use Rattle.runs.proofs.run.Run.advance.Goals as goal
 
-pub returns-in-default : goal.returns-in-default
-returns-in-default g c = on_empty g.B.Board c.args.self.now c.args.board.now Advance c.in-default.is
+pub returns-in_default : goal.returns-in_default
+returns-in_default g c = on_empty g.B.Board c.args.self.now c.args.board.now Advance c.in_default.is
 
 pub returns-then-not-suited : goal.returns-then-not-suited
 returns-then-not-suited g c = on_unsuited g.B.Board c.args.self.now c.args.board.now Advance c.in-Open.held c.in-Open.is tt c.if-not-suited.ensures.1

@@ -24,7 +24,7 @@ returns g c =
     let b = c.args.board.now in
     let e = c.rails-rails.ensures in
     let fresh = subst (λ n. Fresh n first script c.begun.result) e c.begun.ensures in (
-      c.in-default.is,
+      c.in_default.is,
       record {
         passes = c.in_ok-check.ensures.0;
         suits = subst (λ n. Suits (plan g.B.Board n first.values script b) (g.B.Board.rails b)) e (c.if-not-suits.ensures.0 refl);
