@@ -1,5 +1,5 @@
 -- One call after another has one answer where each of them has. Assumes nothing.
-use Rattle.std.proofs.Common.{◌≡◌, ℕ, ◌⊎◌, Ok, Err, Result, sym, refl, ap, ◌∙◌, subst, inl, inr, arith}
+use Rattle.std.proofs.Common.{◌≡◌, ℕ, Ok, Err, Result, sym, ap, ◌∙◌, subst, inl, inr, arith}
 use Rattle.answers.specs.Sequels.{One, Only, Then, Answers}
 
 module _ {A B E F : Type 0} (first : Result A E → Type 0) (wrap : E → F) (next : A → Result B F → Type 0) (one : One first) (each : (a : A) → One (next a)) where

@@ -1,4 +1,6 @@
 // Boards: what a board may do, the ramp bench and the relay board.
+#![tactic(auto)]
+
 pub mod fault;
 pub mod meaning;
 pub mod ramp;

@@ -1,3 +1,5 @@
+#![tactic(auto)]
+
 // Tests of the boards: starts and polls, up and down, layers over layers, refusals.
 #[cfg(test)]
 mod tests {

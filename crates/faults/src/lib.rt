@@ -1,4 +1,6 @@
 // Why a call is refused: the faults of sheets, platforms, settling and listings, each inside the one above it.
+#![tactic(auto)]
+
 pub mod listing;
 pub mod number;
 pub mod platform;

@@ -14,7 +14,7 @@ use Rattle.histories.specs.declared.run.Direction.TheVariants.{Forward, Backward
 use Rattle.histories.specs.declared.run.Outcome.{Outcome}
 use Rattle.histories.specs.Spans.{InSpans, mix_of, InModes}
 use Rattle.histories.specs.Plans.{Plan, rails_at, Opened}
-use Rattle.histories.specs.Runs.{State, at, Advanced, start_ahead, wait_ahead, still_ahead, end_ahead, wait_back, start_back, still_back, end_back, towards, Restarted, none, pass, send, Called, advanced, turned, closed, kept_open, History, begun, then}
+use Rattle.histories.specs.Runs.{State, Advanced, start_ahead, wait_ahead, still_ahead, end_ahead, wait_back, start_back, still_back, end_back, towards, Restarted, none, pass, send, Called, advanced, turned, closed, kept_open, History, begun, then}
 use Rattle.histories.specs.Laws.{AllInModes, Begins, SafeThroughout}
 use Rattle.histories.proofs.Spans.{mix_in_spans}
 use Rattle.histories.proofs.Opening.{safe_at}

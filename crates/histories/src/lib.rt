@@ -1,4 +1,6 @@
 // Histories of runs: what a script makes of the rails, what calls make of a run and its board, and what holds of all of it.
+#![tactic(auto)]
+
 pub mod rail;
 pub mod run;
 pub mod step;

@@ -1,4 +1,6 @@
 // Reads the four sheets from standard input and writes their listing, or the listing of a refusal, to standard output.
+#![tactic(auto)]
+
 use anyhow::anyhow;
 use listings::report_on;
 use std::io;

@@ -1,4 +1,6 @@
 // Runs many inputs, each between percent signs after its name, and prints what is written out for each.
+#![tactic(auto)]
+
 use listings::report_on;
 use sheets::read_demands;
 use std::io::{Read, Write};

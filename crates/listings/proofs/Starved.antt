@@ -1,6 +1,6 @@
 -- A fault with no number is want of memory. Assumes nothing.
 use Rattle.std.proofs.Common.{◌≡◌, refl, arith}
-use Rattle.answers.specs.Refusals.{Refusal, refusal}
+use Rattle.answers.specs.Refusals.{refusal}
 use Rattle.faults.specs.declared.sheet.SheetFault.{SheetFault}
 use Rattle.faults.specs.declared.sheet.SheetFault.TheVariants.{TooLong, Names, Shape, Field, Turn, Crossed, Short, Memory as SheetMemory}
 use Rattle.faults.specs.Numbers.{sheet_refusal}

@@ -6,7 +6,7 @@ use Rattle.settling.specs.Sums.{draw_toll, heat_toll}
 use Rattle.settling.specs.Settling.{Settles}
 use Rattle.faults.specs.declared.listing.ListingFault.{ListingFault}
 use Rattle.faults.specs.declared.listing.ListingFault.TheVariants.{Platform, Settle}
-use Rattle.listings.specs.Inputs.{Four, Cutting}
+use Rattle.listings.specs.Inputs.{Cutting}
 use Rattle.listings.specs.Texts.{settled_text}
 
 -- a listing's fault is passed on as it is

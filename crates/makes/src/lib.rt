@@ -1,4 +1,6 @@
 // What each make answers after a start, whatever is called since; and worked cases.
+#![tactic(auto)]
+
 pub mod cases;
 pub mod laws;
 

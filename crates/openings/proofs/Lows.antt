@@ -6,7 +6,7 @@ use Rattle.histories.specs.declared.rail.Rail.{Rail}
 use Rattle.histories.specs.declared.rail.Rail.TheVariants.{Still, Moving}
 use Rattle.histories.specs.declared.step.Step.{Step}
 use Rattle.histories.specs.declared.step.Step.TheVariants.{Start, Wait}
-use Rattle.histories.specs.Rails.{end_of, origin_of, stepped, after}
+use Rattle.histories.specs.Rails.{end_of, origin_of, stepped}
 use Rattle.openings.specs.Plans.{Plan, rails_at}
 use Rattle.openings.specs.Openings.{Low, Suits}
 

@@ -5,11 +5,9 @@ use Rattle.platform.specs.Units.{Device}
 use Rattle.platform.specs.Rules.{Sound}
 use Rattle.boards.specs.Meaning.{Meaning, Stands}
 use Rattle.histories.specs.declared.run.Answer.{Answer}
-use Rattle.histories.specs.declared.run.Answer.TheVariants.{Arrived}
 use Rattle.histories.specs.declared.run.Call.{Call}
 use Rattle.histories.specs.declared.run.Call.TheVariants.{Advance, Turn, Close}
 use Rattle.histories.specs.declared.run.Direction.{Direction}
-use Rattle.histories.specs.declared.run.Direction.TheVariants.{Forward}
 use Rattle.histories.specs.declared.run.Outcome.{Outcome}
 use Rattle.histories.specs.declared.run.Outcome.TheVariants.{Answered, Granted, Refused}
 use Rattle.histories.specs.Spans.{mix_of, InModes}

@@ -1,5 +1,5 @@
 -- Scripts in form, and when a run is opened. Assumes nothing.
-use Rattle.std.specs.Prelude.{◌≡◌, ℕ, suc, ◌<◌, ◌≤◌, false, List, [], ◌∷◌, length, drop}
+use Rattle.std.specs.Prelude.{◌≡◌, ℕ, suc, ◌<◌, ◌≤◌, false, List, length, drop}
 use Rattle.std.specs.List.{AllByRecursion as All}
 use Rattle.platform.specs.Units.{Device, Resting}
 use Rattle.boards.specs.Meaning.{Meaning}

@@ -1,6 +1,6 @@
 -- Reading the sheets into a platform has one outcome. Assumes nothing.
 use Rattle.std.proofs.Common.{ℕ, List, Ok, Err, Result, refl, inl, inr}
-use Rattle.answers.specs.Sequels.{One, Only, Then, Answers}
+use Rattle.answers.specs.Sequels.{One, Only}
 use Rattle.answers.proofs.Sequels.{one_then, one_answers, only_one}
 use Rattle.faults.specs.declared.sheet.SheetFault.{SheetFault}
 use Rattle.sheets.specs.Reading.{Rows, Reading}

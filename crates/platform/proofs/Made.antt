@@ -1,16 +1,16 @@
 -- Making a platform has one outcome, and what is made keeps the rules. Assumes nothing.
-use Rattle.std.proofs.Common.{◌≡◌, ℕ, ◌<◌, ◌≤◌, List, length, Ok, Err, Result, sym, refl, ap, ◌∙◌, subst, ⊎_elim, arith}
+use Rattle.std.proofs.Common.{◌≡◌, ℕ, ◌≤◌, List, length, Ok, Err, Result, sym, ap, ◌∙◌, subst, ⊎_elim}
 use Rattle.std.proofs.lemmas.Bool.{cases_order}
 use Rattle.answers.specs.Sequels.{One, Only}
 use Rattle.answers.proofs.Sequels.{only_one}
 use Rattle.sheets.specs.Reading.{Rows, Kept}
 use Rattle.faults.specs.declared.platform.PlatformFault.{PlatformFault}
 use Rattle.faults.specs.declared.platform.PlatformFault.TheVariants.{Sheet, Twice, Driver, Memory}
-use Rattle.platform.specs.Units.{Device, unit_at}
+use Rattle.platform.specs.Units.{Device}
 use Rattle.platform.specs.Rules.{Each, PinsCounted, ModesCounted, Wired, Apart, Mild, Cool, Level, Driven}
 use Rattle.platform.specs.Describing.{Model, described}
-use Rattle.platform.specs.Making.{LowestTwice, LowestUndriven, JoinedWell, Makes}
-use Rattle.platform.proofs.Regular.{Regular, regular}
+use Rattle.platform.specs.Making.{LowestTwice, LowestUndriven, Makes}
+use Rattle.platform.proofs.Regular.{regular}
 
 same_unit : (units : List Device) (u v : ℕ) → LowestTwice units u → LowestTwice units v → u ≡ v
 same_unit units u v h g = ⊎_elim (λ e. e) (⊎_elim (λ lt. absurd (h.twice (g.lowest u lt))) (λ gt. absurd (g.twice (h.lowest v gt)))) (cases_order u v)

@@ -1,25 +1,23 @@
 -- What the rules of the sheets make of the platform that their rows describe. Assumes nothing.
-use Rattle.std.proofs.Common.{◌≡◌, ℕ, ◌+◌, ◌<◌, ◌≤◌, max, List, [], ◌∷◌, ◌++◌, map, length, get_or, sym, refl, ap, ◌∙◌, subst, ⊎_elim, arith}
+use Rattle.std.proofs.Common.{◌≡◌, ℕ, ◌+◌, ◌<◌, ◌≤◌, List, [], ◌∷◌, ◌++◌, length, sym, ap, ◌∙◌, subst, ⊎_elim, arith}
 use mathlib.Core.Logic.{∥∥₁_elim}
 use mathlib.Core.HLevel.{Π_prop, ×_prop, ⊥_prop}
 use native.Mathlib.Bridge.{le_prop}
 use lib.ListN.{length-map}
-use Rattle.std.specs.List.{range_with_len, AllByRecursion as All}
+use Rattle.std.specs.List.{AllByRecursion as All}
 use Rattle.std.proofs.lemmas.List.FromFn.{length-map-range_with_len, get_or-map-range_with_len}
 use Rattle.std.proofs.ByRecursion.{All-get_or, all_kept_by, All-map, All-weaker}
 use Rattle.std.proofs.lemmas.List.{same_from_push, get_or_past, length_push}
 use Rattle.std.proofs.lemmas.Bool.{cases_lt}
-use Rattle.sheet.specs.Sheets.{Sheet}
 use Rattle.sheets.specs.declared.rows.PinRow.{PinRow}
 use Rattle.sheets.specs.declared.rows.ModeRow.{ModeRow}
-use Rattle.sheets.specs.declared.rows.BoundRow.{BoundRow}
 use Rattle.sheets.specs.Turns.{unit_count, in_unit, pins_of}
 use Rattle.sheets.specs.Kinds.{pin_sheet, mode_sheet, bound_sheet, PinRanged, ModeRanged}
 use Rattle.sheets.specs.Reading.{Rows, Kept}
 use Rattle.sheets.proofs.Counts.{count_end}
 use Rattle.platform.specs.declared.parts.Bounds.{Bounds}
 use Rattle.platform.specs.declared.parts.Mode.{Mode}
-use Rattle.platform.specs.Units.{Device, unit_at, rail_at, mode_at, pin_bounds, bounds_at, no_pin, no_mode, no_bounds, no_device}
+use Rattle.platform.specs.Units.{Device, unit_at, rail_at, mode_at, bounds_at, no_pin, no_mode, no_bounds, no_device}
 use Rattle.platform.specs.Rules.{Each, PinsCounted, ModesCounted, Wired, Mild, Cool, Level}
 use Rattle.platform.specs.Describing.{pin_from, bounds_from, mode_in_unit, modes_of, bound_in_mode, bounds_of, four, mode_from, unit_from, rail_count, described}
 use Rattle.platform.proofs.Numbered.{all_fit, Counted, counted, all_counted}

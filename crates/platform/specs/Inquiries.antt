@@ -2,7 +2,7 @@
 use Rattle.std.specs.Prelude.{ℕ, List, Result}
 use Rattle.answers.specs.Sequels.{Then, Answers}
 use Rattle.sheets.specs.declared.rows.Demand.{Demand}
-use Rattle.sheets.specs.Reading.{Rows, Reading}
+use Rattle.sheets.specs.Reading.{Reading}
 use Rattle.sheets.specs.Sets.{rows_of}
 use Rattle.faults.specs.declared.platform.PlatformFault.{PlatformFault}
 use Rattle.faults.specs.declared.platform.PlatformFault.TheVariants.{Sheet}

@@ -1,5 +1,5 @@
 -- The rules that every platform keeps. Assumes nothing.
-use Rattle.std.specs.Prelude.{◌≡◌, ℕ, ◌+◌, ◌<◌, ◌≤◌, Bool, true, false, cond, List, [], ◌∷◌, length, ◌==◌}
+use Rattle.std.specs.Prelude.{◌≡◌, ℕ, ◌+◌, ◌<◌, ◌≤◌, cond, List, [], ◌∷◌, length, ◌==◌}
 use Rattle.sheets.specs.declared.rows.Way.{Way}
 use Rattle.sheets.specs.declared.rows.Way.TheVariants.{Drives, Loads}
 use Rattle.platform.specs.declared.parts.Pin.{Pin}

@@ -1,4 +1,6 @@
 // Platforms: rails, units, pins, modes, mixes and their rules.
+#![tactic(auto)]
+
 mod build;
 mod check;
 pub mod inquiry;

@@ -12,7 +12,7 @@ use Rattle.openings.specs.Runs.{State, at, board_of, Called, advanced, turned, c
 use Rattle.runs.specs.declared.journey.Journey.{Journey}
 use Rattle.runs.specs.declared.run.Run.{Run}
 use Rattle.runs.specs.declared.run.Run.TheVariants.{Empty, Open}
-use Rattle.runs.specs.Working.{boards, plan_of, script_of, journey_state, state_of, Same, SameRun, Suited, Ran, unopened, unsuited, made}
+use Rattle.runs.specs.Working.{boards, plan_of, script_of, journey_state, state_of, Same, SameRun, Ran, unsuited, made}
 use Rattle.runs.specs.Opening.{IsOpen}
 use Rattle.promises.specs.Notes.{Alongside, WorkedOut}
 use Rattle.promises.specs.Chains.{Chain, none, more}

@@ -1,14 +1,14 @@
 -- Histories of boards are histories of their meanings. Assumes nothing.
-use Rattle.std.proofs.Common.{◌≡◌, ℕ, suc, List, [], ◌∷◌, ◌++◌, map, sym, refl, ap, ◌∙◌, subst, subst₂}
+use Rattle.std.proofs.Common.{◌≡◌, ℕ, List, [], ◌∷◌, map, refl, ◌∙◌, subst, subst₂}
 use Rattle.std.proofs.lemmas.List.{map-append}
 use Rattle.boards.specs.declared.meaning.Board.{Ghosts}
-use Rattle.boards.specs.Meaning.{Meaning, Started, Polled}
+use Rattle.boards.specs.Meaning.{Started, Polled}
 use Rattle.histories.specs.declared.rail.Rail.{Rail}
 use Rattle.histories.specs.declared.run.Answer.{Answer}
 use Rattle.histories.specs.declared.run.Call.{Call}
 use Rattle.histories.specs.declared.run.Direction.{Direction}
 use Rattle.histories.specs.declared.run.Outcome.{Outcome}
-use Rattle.openings.specs.Plans.{Plan, rails_at}
+use Rattle.openings.specs.Plans.{Plan}
 use Rattle.openings.specs.Runs.{meanings, State, at, shut, board_of, Advanced, start_ahead, wait_ahead, still_ahead, end_ahead, wait_back, start_back, still_back, end_back, Restarted, none, pass, send, Called, advanced, turned, closed, kept_open, History, begun, then}
 use Rattle.runs.specs.Working.{meaning, Sent, Asked, boards}
 use Rattle.promises.specs.Promise.{meant_state}

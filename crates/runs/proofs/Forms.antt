@@ -1,5 +1,5 @@
 -- What a script in form gives a run to hold. Assumes nothing.
-use Rattle.std.proofs.Common.{◌≡◌, ℕ, suc, ◌<◌, ◌≤◌, List, ◌∷◌, length, get_or, drop, subst, arith, drop-cons}
+use Rattle.std.proofs.Common.{ℕ, suc, ◌<◌, ◌≤◌, List, ◌∷◌, length, get_or, drop, subst, arith, drop-cons}
 use native.Mathlib.Decide.{dec_lt}
 use Rattle.histories.specs.declared.rail.Rail.{Rail}
 use Rattle.histories.specs.declared.step.Step.{Step}

@@ -1,19 +1,17 @@
 -- The links of a history, from what the code has in hand. Assumes nothing.
-use Rattle.std.proofs.Common.{◌≡◌, ℕ, zero, suc, ◌+◌, ◌-◌, ◌<◌, ◌≤◌, Bool, true, false, List, [], ◌∷◌, length, get_or, drop, Some, None, Option, sym, refl, ap, ◌∙◌, subst, add-one, arith, length-drop}
-use Rattle.std.specs.List.{AllByRecursion as All}
+use Rattle.std.proofs.Common.{◌≡◌, ℕ, zero, suc, ◌+◌, ◌-◌, ◌<◌, ◌≤◌, Bool, false, List, [], ◌∷◌, length, drop, Some, None, Option, refl, ap, subst, add-one, arith, length-drop}
 use Rattle.std.proofs.ByRecursion.{All-get_or}
 use Rattle.std.proofs.lemmas.List.{length-take-le}
 use Rattle.boards.specs.declared.meaning.Board.{Ghosts}
-use Rattle.histories.specs.declared.run.Answer.{Answer}
 use Rattle.histories.specs.declared.run.Answer.TheVariants.{Moved, Waiting, Arrived}
 use Rattle.histories.specs.declared.run.Direction.{Direction}
 use Rattle.histories.specs.declared.run.Direction.TheVariants.{Forward, Backward}
 use Rattle.histories.specs.declared.step.Step.{Step}
 use Rattle.histories.specs.declared.step.Step.TheVariants.{Start, Wait}
-use Rattle.histories.specs.Rails.{origin_of, end_of}
+use Rattle.histories.specs.Rails.{origin_of}
 use Rattle.openings.specs.Plans.{rails_at}
 use Rattle.openings.specs.Openings.{Low}
-use Rattle.openings.specs.Runs.{State, at, Advanced, still_ahead, end_ahead, still_back, end_back}
+use Rattle.openings.specs.Runs.{at, Advanced, still_ahead, end_ahead, still_back, end_back}
 use Rattle.openings.proofs.Lows.{low_rails}
 use Rattle.runs.specs.declared.journey.Journey.{Journey}
 use Rattle.runs.specs.Journeys.{rail_of, current}

@@ -1,5 +1,5 @@
 -- A turn on its way through the rails, from what the code has in hand. Assumes nothing.
-use Rattle.std.proofs.Common.{◌≡◌, ℕ, suc, ◌+◌, ◌<◌, ◌≤◌, List, [], ◌∷◌, ◌++◌, sym, ap, ◌∙◌, add-one, arith}
+use Rattle.std.proofs.Common.{◌≡◌, ℕ, ◌+◌, ◌<◌, ◌≤◌, List, [], ◌∷◌, ◌++◌, ap, add-one, arith}
 use Rattle.boards.specs.declared.meaning.Board.{Ghosts}
 use Rattle.histories.specs.declared.rail.Rail.{Rail}
 use Rattle.histories.specs.declared.rail.Rail.TheVariants.{Still, Moving}
@@ -7,7 +7,7 @@ use Rattle.histories.specs.declared.run.Direction.{Direction}
 use Rattle.histories.specs.declared.run.Direction.TheVariants.{Forward, Backward}
 use Rattle.histories.specs.Rails.{origin_of, end_of}
 use Rattle.openings.specs.Plans.{rails_at}
-use Rattle.openings.specs.Runs.{Works, Restarted, none, pass, send, towards}
+use Rattle.openings.specs.Runs.{Works, Restarted, pass, send, towards}
 use Rattle.openings.proofs.Lows.{low_rails}
 use Rattle.runs.specs.declared.journey.Journey.{Journey}
 use Rattle.runs.specs.Working.{plan_of, Suited}

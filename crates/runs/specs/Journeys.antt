@@ -1,5 +1,5 @@
 -- What an open run holds: a script on the platform's rails, and each rail as the steps done leave it. Assumes nothing.
-use Rattle.std.specs.Prelude.{◌≡◌, ℕ, zero, suc, ◌<◌, ◌≤◌, List, [], ◌∷◌, length, drop, Some, None, Option, slice_index_or}
+use Rattle.std.specs.Prelude.{◌≡◌, ℕ, zero, suc, ◌<◌, List, [], ◌∷◌, length, drop, Some, None, Option, slice_index_or}
 use Rattle.histories.specs.declared.rail.Rail.{Rail}
 use Rattle.histories.specs.declared.rail.Rail.TheVariants.{Still}
 use Rattle.histories.specs.declared.run.Direction.{Direction}

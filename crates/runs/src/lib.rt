@@ -1,4 +1,6 @@
 // Runs: a board is worked through a script, forwards and back.
+#![tactic(auto)]
+
 mod advance;
 mod begin;
 pub mod calls;

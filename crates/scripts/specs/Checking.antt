@@ -7,7 +7,6 @@ use Rattle.platform.specs.Units.{value_of, Resting}
 use Rattle.platform.specs.Describing.{Model}
 use Rattle.platform.specs.Resting.{LowestUnrested}
 use Rattle.spans.specs.Judging.{LowestBad}
-use Rattle.openings.specs.declared.end.End.{End}
 use Rattle.openings.specs.declared.end.End.TheVariants.{First, Last}
 use Rattle.histories.specs.declared.rail.Rail.{Rail}
 use Rattle.histories.specs.declared.step.Step.{Step}

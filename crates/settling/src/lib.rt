@@ -1,4 +1,6 @@
 // Settling a platform: one rest mode for each unit, so that the demands are met at the least cost.
+#![tactic(auto)]
+
 pub mod answer;
 pub mod cost;
 mod draft;

@@ -1,13 +1,12 @@
 -- One line, as the reader takes it apart. Assumes nothing.
-use Rattle.std.proofs.Common.{◌≡◌, ℕ, zero, suc, ◌+◌, ◌<◌, ◌≤◌, Bool, true, false, not, List, [], ◌∷◌, ◌++◌, length, get_or, take, drop, Decides, sym, refl, ap, ◌∙◌, subst, inl, inr, ⊎_elim, append_assoc, append-nil, arith, length-append}
+use Rattle.std.proofs.Common.{◌≡◌, ℕ, zero, suc, ◌+◌, ◌<◌, ◌≤◌, Bool, true, false, not, List, [], ◌∷◌, ◌++◌, length, get_or, take, drop, Decides, sym, refl, ap, ◌∙◌, subst, inr, ⊎_elim, append_assoc, append-nil, arith, length-append}
 use Rattle.std.specs.List.{flat_map, AllByRecursion as All}
-use Rattle.std.proofs.ByRecursion.{All-append}
 use Rattle.std.proofs.lemmas.List.{take_all, take_more, nil_from_length, flat_map_more, length_push}
 use Rattle.std.proofs.str.Laws.{order}
 use Rattle.text.specs.Written.{Lacks, commas, Fields}
 use Rattle.text.proofs.Cuts.{around}
 use Rattle.sheet.specs.Sheets.{Told}
-use Rattle.sheet.specs.Sheets.{Sheet, Inner, Plain, line, line_fault, written, render, Fits, GoodAfter, Good, Granted, At, Misnamed, Unended, Refused, Shaped, Starts, checks, BadLine, LineFault, ReadsRow, Lawful}
+use Rattle.sheet.specs.Sheets.{Sheet, Plain, line, line_fault, written, render, Fits, GoodAfter, Good, Granted, At, Misnamed, Unended, Refused, Shaped, Starts, BadLine, LineFault, ReadsRow, Lawful}
 use Rattle.faults.specs.declared.sheet.SheetFault.{SheetFault}
 use Rattle.faults.specs.declared.sheet.SheetFault.TheVariants.{Short}
 use Rattle.sheet.proofs.Laws.{cut_same, line_same, start_same, row_some}

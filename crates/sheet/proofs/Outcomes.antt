@@ -1,8 +1,8 @@
 -- No two outcomes of the same bytes differ. Assumes nothing.
-use Rattle.std.proofs.Common.{◌≡◌, ℕ, zero, suc, ◌+◌, ◌<◌, ◌≤◌, ◌⊎◌, List, [], ◌∷◌, ◌++◌, length, Ok, Err, Result, sym, refl, ap, ◌∙◌, subst, inl, inr, ⊎_elim, append_assoc, append-nil, arith, length-append, MatchResult}
+use Rattle.std.proofs.Common.{◌≡◌, ℕ, ◌+◌, ◌<◌, ◌≤◌, List, [], ◌∷◌, ◌++◌, length, Ok, Err, Result, sym, refl, ap, ◌∙◌, subst, inl, inr, ⊎_elim, append_assoc, append-nil, arith, length-append, MatchResult}
 use Rattle.std.specs.List.{flat_map}
 use Rattle.std.proofs.lemmas.List.{append_cancel_left}
-use Rattle.answers.specs.Sequels.{One, Only, Exactly}
+use Rattle.answers.specs.Sequels.{Only, Exactly}
 use Rattle.answers.proofs.Orders.{one_first, none_bad}
 use Rattle.answers.proofs.Sequels.{only_one}
 use Rattle.faults.specs.Numbers.{sheet_refusal}

@@ -1,4 +1,6 @@
 // Reads a sheet of any layout, line by line: its rows, or its first fault.
+#![tactic(auto)]
+
 pub mod layout;
 pub mod read;
 

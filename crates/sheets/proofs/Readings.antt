@@ -1,9 +1,9 @@
 -- Four sheets read one after the other have one outcome. Assumes nothing.
-use Rattle.std.proofs.Common.{◌≡◌, ℕ, List, Ok, Err, Result, sym, refl, ap, subst, inl, inr}
-use Rattle.answers.specs.Sequels.{One, Only, Then, Answers}
+use Rattle.std.proofs.Common.{◌≡◌, ℕ, List, Ok, Err, Result, refl, subst, inl, inr}
+use Rattle.answers.specs.Sequels.{One, Only}
 use Rattle.answers.proofs.Sequels.{one_then, one_answers, only_one}
 use Rattle.faults.specs.declared.sheet.SheetFault.{SheetFault}
-use Rattle.sheet.specs.Sheets.{Sheet, Granted, Outcome}
+use Rattle.sheet.specs.Sheets.{Granted, Outcome}
 use Rattle.sheet.proofs.Outcomes.{one_outcome}
 use Rattle.sheets.specs.declared.rows.PinRow.{PinRow}
 use Rattle.sheets.specs.declared.rows.ModeRow.{ModeRow}
@@ -11,7 +11,7 @@ use Rattle.sheets.specs.declared.rows.BoundRow.{BoundRow}
 use Rattle.sheets.specs.declared.rows.Demand.{Demand}
 use Rattle.sheets.specs.Turns.{unit_count, places}
 use Rattle.sheets.specs.Kinds.{pin_sheet, mode_sheet, bound_sheet, demand_sheet}
-use Rattle.sheets.specs.Reading.{Rows, Keeps, Kept, as_is, Reading}
+use Rattle.sheets.specs.Reading.{Rows, Kept, as_is, Reading}
 use Rattle.sheets.specs.Fields.{pins_lawful, modes_lawful, bounds_lawful, demands_lawful}
 
 pub one_reading : (b0 b1 b2 b3 : List ℕ) → One (Reading b0 b1 b2 b3)

@@ -1,8 +1,8 @@
 -- Rows as fields: what is written of a row tells it. Assumes nothing.
-use Rattle.std.specs.Prelude.{◌≡◌, ℕ, ◌≤◌, List, [], ◌∷◌, decimal, refl}
+use Rattle.std.specs.Prelude.{◌≡◌, ℕ, ◌≤◌, List, decimal, refl}
 use Rattle.std.proofs.Common.{arith, rules}
 use Rattle.std.proofs.lemmas.Fmt.{decimal_injective}
-use Rattle.sheet.specs.Sheets.{Sheet, Plain, Lawful}
+use Rattle.sheet.specs.Sheets.{Plain, Lawful}
 use Rattle.sheet.proofs.Laws.{plain_decimal}
 use Rattle.sheets.specs.declared.rows.Way.{Way}
 use Rattle.sheets.specs.declared.rows.Way.TheVariants.{Drives, Loads}

@@ -2,7 +2,7 @@
 use Rattle.std.specs.Prelude.{ℕ, List, Result}
 use Rattle.answers.specs.Sequels.{Then, Answers}
 use Rattle.faults.specs.declared.sheet.SheetFault.{SheetFault}
-use Rattle.sheet.specs.Sheets.{Sheet, Good, Outcome, OneWriting, ReadsBack}
+use Rattle.sheet.specs.Sheets.{Sheet, Good, Outcome}
 use Rattle.sheets.specs.declared.rows.PinRow.{PinRow}
 use Rattle.sheets.specs.declared.rows.ModeRow.{ModeRow}
 use Rattle.sheets.specs.declared.rows.BoundRow.{BoundRow}

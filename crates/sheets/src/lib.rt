@@ -1,4 +1,6 @@
 // The four sheets of a board, read from bytes.
+#![tactic(auto)]
+
 pub mod bounds;
 pub mod demands;
 pub mod modes;

@@ -1,4 +1,6 @@
 // Safe spans: whether a unit is in some mode at every mix that spans allow, and the first mix at which it is not.
+#![tactic(auto)]
+
 pub mod judge;
 mod kept;
 mod pins;

@@ -1,6 +1,5 @@
-use Rattle.std.proofs.Common.{◌≡◌, List, [], ◌++◌, Ok, Err, string_bytes, ap, ◌∙◌, subst, arith}
+use Rattle.std.proofs.Common.{[], ◌++◌, Ok, Err, string_bytes, ap, ◌∙◌, subst, arith}
 use Rattle.std.proofs.lemmas.Result.{err_from_is_err_and}
-use Rattle.sheets.specs.declared.rows.Demand.{Demand}
 use Rattle.platform.specs.Inquiries.{inquiry_of}
 use Rattle.settling.specs.Sums.{draw_toll, heat_toll}
 use Rattle.settling.specs.Settling.{Settles}

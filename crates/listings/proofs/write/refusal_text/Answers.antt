@@ -1,6 +1,5 @@
-use Rattle.std.proofs.Common.{◌≡◌, ℕ, List, [], ◌∷◌, ◌++◌, string_bytes, codes, decimal, sym, ap, ◌∙◌, append_assoc}
+use Rattle.std.proofs.Common.{[], ◌∷◌, ◌++◌, codes, decimal, ap, ◌∙◌, append_assoc}
 use Rattle.sheet.specs.Sheets.{line}
-use Rattle.faults.specs.Numbers.{listing_refusal}
 use Rattle.listings.proofs.Lines.{both}
 use Rattle.listings.proofs.write.refusal_text.Goals as goal
 

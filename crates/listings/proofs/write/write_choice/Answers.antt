@@ -1,5 +1,4 @@
-use Rattle.std.proofs.Common.{◌≡◌, ◌++◌, length, vec_items, string_bytes, sym, ap, ◌∙◌, arith}
-use Rattle.platform.specs.Units.{devices}
+use Rattle.std.proofs.Common.{◌++◌, length, vec_items, string_bytes, sym, ap, ◌∙◌, arith}
 use Rattle.platform.proofs.Checking.{as_many}
 use Rattle.settling.specs.Choices.{units_of}
 use Rattle.settling.specs.Tolls.{cost}

@@ -1,6 +1,5 @@
-use Rattle.std.proofs.Common.{[], ◌∷◌, ◌++◌, map, vec_items, ap, ◌∙◌, arith}
+use Rattle.std.proofs.Common.{[], ◌∷◌, ◌++◌, vec_items, ap, ◌∙◌, arith}
 use Rattle.std.proofs.lemmas.List.{take_all}
-use Rattle.std.proofs.lemmas.Bool.{eq-eqb, ne_eqb}
 use Rattle.platform.specs.Describing.{bounds_from, bound_in_mode, bounds_of}
 use Rattle.sheets.proofs.Kept.{keeps_yes, keeps_no}
 use Rattle.platform.proofs.build.bounds_of.Goals as goal

@@ -1,6 +1,5 @@
 use Rattle.std.proofs.Common.{◌≡◌, map, take, vec_items}
-use Rattle.sheets.specs.Turns.{pins_of}
-use Rattle.platform.specs.Describing.{pin_from, modes_of, bounds_of, mode_from}
+use Rattle.platform.specs.Describing.{modes_of, mode_from}
 use Rattle.platform.proofs.build.modes_of.Given as goal
 
 abbrev pub invariant-loop-row : goal.invariant-loop-row

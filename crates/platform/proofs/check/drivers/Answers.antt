@@ -1,6 +1,6 @@
-use Rattle.std.proofs.Common.{◌≡◌, ◌+◌, length, vec_items, sym, ap, ◌∙◌, subst, arith}
+use Rattle.std.proofs.Common.{◌+◌, length, ap, ◌∙◌, subst, arith}
 use Rattle.std.proofs.lemmas.List.{take_all}
-use Rattle.platform.specs.Units.{device, devices}
+use Rattle.platform.specs.Units.{devices}
 use Rattle.platform.specs.Rules.{drivers_among, drivers, PinsCounted}
 use Rattle.platform.proofs.Checking.{unit_is, as_many, drivers_more}
 use Rattle.platform.proofs.check.drivers.Goals as goal

@@ -1,6 +1,4 @@
-use Rattle.std.proofs.Common.{[], Ok, Err, sym, ap, subst}
-use Rattle.histories.specs.declared.run.Call.TheVariants.{Close}
-use Rattle.histories.specs.declared.run.Outcome.TheVariants.{Refused}
+use Rattle.std.proofs.Common.{[], Ok, Err}
 use Rattle.runs.proofs.Outcomes.{closes}
 use Rattle.rehearsals.proofs.calling.make_call.Goals as goal
 

@@ -1,4 +1,4 @@
-use Rattle.std.proofs.Common.{◌≡◌, sym, refl, ◌∙◌, subst, inl, inr, arith}
+use Rattle.std.proofs.Common.{◌≡◌, subst, inl, inr, arith}
 use Rattle.histories.specs.declared.run.Call.TheVariants.{Advance}
 use Rattle.promises.specs.Chains.{Noted}
 use Rattle.promises.proofs.Noting.{noted_none, noted_more}

@@ -1,4 +1,3 @@
-use Rattle.std.proofs.Common.{◌≡◌, length}
 use Rattle.runs.specs.Opening.{IsOpen}
 use Rattle.promises.specs.Chains.{Noted}
 use Rattle.rehearsals.proofs.running.make_calls.Given as goal

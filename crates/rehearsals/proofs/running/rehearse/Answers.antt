@@ -1,4 +1,3 @@
-use Rattle.std.proofs.Common.{◌≡◌}
 use Rattle.platform.specs.Making.{model_of}
 use Rattle.platform.specs.Rules.{Sound}
 use Rattle.promises.proofs.Promises.{promised}

@@ -1,4 +1,4 @@
-use Rattle.std.proofs.Common.{◌≡◌, ◌<◌, length, refl, ◌∙◌, arith, length-set}
+use Rattle.std.proofs.Common.{◌≡◌, refl, ◌∙◌, arith, length-set}
 use Rattle.platform.specs.Units.{value_of}
 use Rattle.boards.proofs.Tables.{one_more}
 use Rattle.histories.specs.declared.rail.Rail.TheVariants.{Still}

@@ -1,4 +1,4 @@
-use Rattle.std.proofs.Common.{Bool, ◌≡◌, ◌+◌, ◌-◌, ◌<◌, length, take, drop, vec_items, Decides, sym, refl, ap, ◌∙◌, subst, inl, inr, arith, rules, true-eqb}
+use Rattle.std.proofs.Common.{Bool, ◌≡◌, ◌+◌, ◌-◌, ◌<◌, length, take, drop, vec_items, Decides, sym, refl, ap, subst, inl, arith, true-eqb}
 use native.Mathlib.Nat.{sub-zero}
 use Rattle.std.specs.Str.{bytes_eq}
 use Rattle.std.proofs.lemmas.Slice.Eq.{bytes_eq-Decides}

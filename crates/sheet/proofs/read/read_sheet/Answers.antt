@@ -1,4 +1,4 @@
-use Rattle.std.proofs.Common.{Ok, Err, vec_items, Result}
+use Rattle.std.proofs.Common.{vec_items}
 use Rattle.sheet.proofs.Outcomes.{exactly}
 use Rattle.sheet.proofs.read.read_sheet.Goals as goal
 

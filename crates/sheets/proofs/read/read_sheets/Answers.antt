@@ -1,4 +1,4 @@
-use Rattle.std.proofs.Common.{Ok, Err, vec_items, ap, ◌∙◌}
+use Rattle.std.proofs.Common.{Ok, vec_items, ap, ◌∙◌}
 use Rattle.std.proofs.lemmas.Result.{err_from_is_err_and}
 use Rattle.sheets.specs.Turns.{unit_count}
 use Rattle.sheets.proofs.Readings.{beside, at_pins, at_modes, at_bounds, at_demands, all_read, all_kept}

@@ -1,5 +1,4 @@
-use Rattle.std.proofs.Common.{◌≡◌, ◌≤◌, length, vec_items, sym, ap, ◌∙◌, subst, arith, rules}
-use Rattle.std.proofs.lemmas.Result.{err_from_is_err_and}
+use Rattle.std.proofs.Common.{◌≡◌, ◌≤◌, vec_items, ap, ◌∙◌, subst, arith, rules}
 use Rattle.sheets.specs.Sets.{rows_of}
 use Rattle.platform.specs.Units.{devices}
 use Rattle.platform.specs.Rules.{Each, Apart, Driven}

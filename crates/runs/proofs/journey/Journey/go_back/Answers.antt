@@ -1,4 +1,4 @@
-use Rattle.std.proofs.Common.{◌≡◌, suc, ◌-◌, ◌<◌, ◌≤◌, length, sym, subst, arith}
+use Rattle.std.proofs.Common.{◌≡◌, suc, ◌-◌, ◌<◌, length, sym, subst, arith}
 use Rattle.platform.specs.Units.{value_of}
 use Rattle.runs.specs.Journeys.{rail_of, Recorded}
 use Rattle.runs.specs.Working.{script_of}

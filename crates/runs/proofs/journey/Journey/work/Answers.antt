@@ -4,7 +4,7 @@ use Rattle.histories.specs.declared.step.Step.TheVariants.{Start, Wait}
 use Rattle.histories.specs.Rails.{origin_of}
 use Rattle.openings.specs.Runs.{start_ahead, wait_ahead, wait_back, start_back}
 use Rattle.runs.specs.Working.{script_of}
-use Rattle.runs.proofs.Links.{asked_as, step_rail, target_low, origin_low, moved_on, moved_back, waiting_on, waiting_back, arrived}
+use Rattle.runs.proofs.Links.{step_rail, target_low, origin_low, moved_on, moved_back, waiting_on, waiting_back, arrived}
 use Rattle.runs.proofs.journey.Journey.work.Goals as goal
 
 pub send-requires : goal.send-requires

@@ -2,7 +2,6 @@ use Rattle.std.proofs.Common.{◌≤◌, refl, subst, rules}
 use Rattle.platform.specs.Units.{value_of}
 use Rattle.platform.specs.Making.{model_of}
 use Rattle.openings.specs.Openings.{Suits, Standing}
-use Rattle.runs.specs.Journeys.{OnRails}
 use Rattle.runs.specs.Working.{meaning, plan}
 use Rattle.runs.specs.Opening.{Fresh}
 use Rattle.runs.proofs.Forms.{formed_short, formed_rails}
