@@ -1,6 +1,6 @@
 -- What holds of every history from its opening to its close. Assumes nothing.
 use Rattle.std.specs.Prelude.{◌≡◌, ℕ, ◌+◌, ◌*◌, ◌<◌, ◌≤◌, List, [], ◌∷◌}
-use Rattle.std.specs.List.{AllByRecursion as All}
+use Rattle.std.specs.List.{AllByRecursion}
 use Rattle.platform.specs.Units.{Device}
 use Rattle.boards.specs.Meaning.{Meaning, Stands}
 use Rattle.histories.specs.declared.run.Answer.{Answer}
@@ -15,7 +15,7 @@ use Rattle.histories.specs.Runs.{State, at, shut, Called, History}
 
 -- at each of these moments of a board with n rails every unit is in some mode
 abbrev pub AllInModes : ℕ → List Device → List Meaning → Type 0
-AllInModes n units moments = All (λ m. InModes units (mix_of n m.value)) moments
+AllInModes n units moments = AllByRecursion (λ m. InModes units (mix_of n m.value)) moments
 
 -- no turn or close was granted
 abbrev pub Ungranted : Outcome → Type 0
@@ -56,7 +56,7 @@ Reaches =
     → Begins units q b
     → History q (at 0 Direction.Forward b) calls outs moments (at k d m)
     → History q (at k d m) more outs' moments' x
-    → All Ungranted outs'
+    → AllByRecursion Ungranted outs'
     → steps_left q k d + waits_left q k d * q.patience ≤ advances more
     → AtEnd q x
 

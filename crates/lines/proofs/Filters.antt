@@ -1,6 +1,6 @@
 -- What a filter keeps, and of which list. Assumes nothing.
 use Rattle.std.proofs.Common.{◌≡◌, ℕ, zero, suc, ◌<◌, Bool, true, false, cond, ◌&&◌, List, [], ◌∷◌, ◌++◌, map, length, get_or, filter, refl, ap, ◌∙◌, arith}
-use Rattle.std.specs.List.{flat_map, ContainsAt as Has, AllByRecursion as All}
+use Rattle.std.specs.List.{flat_map, ContainsAt as Has, AllByRecursion}
 use Rattle.std.proofs.lemmas.Bool.{false≢true}
 use Rattle.std.proofs.lemmas.List.Elements.{filter-append}
 use Rattle.std.proofs.ByRecursion.{All-append, All-weaker, has_append_right}
@@ -11,11 +11,11 @@ pick [] j lt = absurd (omega arith)
 pick (x ∷ xs) zero lt = (x, λ d. refl)
 pick (x ∷ xs) (suc j) lt = pick xs j (omega arith)
 
-pub all_of : {X : Type 0} (P : X → Type 0) → ((x : X) → P x) → (xs : List X) → All P xs
+pub all_of : {X : Type 0} (P : X → Type 0) → ((x : X) → P x) → (xs : List X) → AllByRecursion P xs
 all_of P h [] = tt
 all_of P h (x ∷ xs) = (h x, all_of P h xs)
 
-pub all_joined : {X Y : Type 0} (P : Y → Type 0) (f : X → List Y) (xs : List X) → All (λ x. All P (f x)) xs → All P (flat_map f xs)
+pub all_joined : {X Y : Type 0} (P : Y → Type 0) (f : X → List Y) (xs : List X) → AllByRecursion (λ x. AllByRecursion P (f x)) xs → AllByRecursion P (flat_map f xs)
 all_joined P f [] h = tt
 all_joined P f (x ∷ xs) h = All-append P (f x) (flat_map f xs) h.0 (all_joined P f xs h.1)
 
@@ -29,7 +29,7 @@ module _ {X : Type 0} (p : X → Bool) where
   later false x y xs h = h
 
   -- what passes is kept
-  pub all_has_kept : (xs : List X) → All (λ x. p x ≡ true → Has (filter p xs) x) xs
+  pub all_has_kept : (xs : List X) → AllByRecursion (λ x. p x ≡ true → Has (filter p xs) x) xs
   all_has_kept [] = tt
   all_has_kept (x ∷ xs) = (
     first (p x) x (filter p xs),

@@ -1,7 +1,7 @@
 -- The platform that rows describe has what their lines say, and nothing else. Assumes nothing.
 use Rattle.std.proofs.Common.{◌≡◌, ℕ, zero, suc, ◌+◌, ◌<◌, ◌≤◌, eqb, List, [], ◌∷◌, ◌++◌, length, get_or, filter, sym, refl, ap, ◌∙◌, ⊎_elim, arith}
 use lib.ListN.{length-map}
-use Rattle.std.specs.List.{ContainsAt as Has, AllByRecursion as All}
+use Rattle.std.specs.List.{ContainsAt as Has, AllByRecursion}
 use Rattle.std.proofs.lemmas.List.FromFn.{length-map-range_with_len, get_or-map-range_with_len}
 use Rattle.std.proofs.ByRecursion.{all-has, all_has_itself, All-weaker, has_append_right}
 use Rattle.std.proofs.lemmas.List.{get_or-map, length_push}
@@ -77,7 +77,7 @@ module _ (rows : Rows) (kept : Kept rows.pins rows.modes rows.bounds rows.demand
   mode_unit : (r : ModeRow) → Has rows.modes r → r.unit < n
   mode_unit r has = all-has (λ x. x.unit < n) rows.modes r (below [] rows.modes kept.modes_keep.good) has
     where
-      below : (before rest : List ModeRow) → GoodAfter (mode_sheet n) before rest → All (λ x. x.unit < n) rest
+      below : (before rest : List ModeRow) → GoodAfter (mode_sheet n) before rest → AllByRecursion (λ x. x.unit < n) rest
       below before [] good = tt
       below before (x ∷ rest) good = (good.0.next.0, below (before ++ x ∷ []) rest good.1)
 
@@ -182,7 +182,7 @@ module _ (rows : Rows) (kept : Kept rows.pins rows.modes rows.bounds rows.demand
         same = bounds_same b has in' few s;
       }
 
-  each : {Row : Type 0} (P : Row → Type 0) (xs : List Row) → ((r : Row) → Has xs r → P r) → All P xs
+  each : {Row : Type 0} (P : Row → Type 0) (xs : List Row) → ((r : Row) → Has xs r → P r) → AllByRecursion P xs
   each P xs h = All-weaker (Has xs) P h xs (all_has_itself xs)
 
   pub holds : Holds rows (described rows)

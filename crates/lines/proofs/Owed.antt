@@ -1,7 +1,7 @@
 -- The bound rows of a mode: one for each pin of its unit, in order. Assumes nothing.
 use Rattle.std.proofs.Common.{◌≡◌, ℕ, zero, suc, ◌+◌, ◌<◌, Bool, true, ◌&&◌, eqb, List, [], ◌∷◌, ◌++◌, map, length, get_or, filter, sym, refl, ap, ◌∙◌, subst, append-nil, arith}
 use lib.ListN.{length-map}
-use Rattle.std.specs.List.{flat_map, ContainsAt as Has, AllByRecursion as All}
+use Rattle.std.specs.List.{flat_map, ContainsAt as Has, AllByRecursion}
 use Rattle.std.proofs.ByRecursion.{all-has, All-map, All-weaker, kept_by_passes}
 use Rattle.std.proofs.lemmas.List.{ext_get_or, get_or-map, length_push}
 use Rattle.std.proofs.lemmas.Bool.{eqb-true}
@@ -65,9 +65,9 @@ module _ (pins : List PinRow) (modes : List ModeRow) (bounds : List BoundRow) (k
     bounds_on = on_unmap (λ (p : Place). p.pin) place_of 0 _ (subst (On (λ (p : Place). p.pin) 0) (sym of_row) (on_map (λ (p : Place). p.pin) (pin_place row.0) 0 (pins_of k pins) pins_on))
 
   -- what holds of each mode row's unit and number holds of each bound row's
-  pub as_modes : (P : ℕ → ℕ → Type 0) → All (λ r. P r.unit r.mode) modes → (b : BoundRow) → Has bounds b → P b.unit b.mode
+  pub as_modes : (P : ℕ → ℕ → Type 0) → AllByRecursion (λ r. P r.unit r.mode) modes → (b : BoundRow) → Has bounds b → P b.unit b.mode
   as_modes P all b (j, lt, at) =
       let Q : Place → Type 0 = λ p. P p.unit p.mode in
-      let each : All Q (places pins modes) = all_joined Q (mode_places pins) modes (All-weaker (λ r. P r.unit r.mode) (λ r. All Q (mode_places pins r)) (λ r h. All-map Q (pin_place r) (pins_of r.unit pins) (all_of (λ p. Q (pin_place r p)) (λ p. h) (pins_of r.unit pins))) modes all) in
+      let each : AllByRecursion Q (places pins modes) = all_joined Q (mode_places pins) modes (All-weaker (λ r. P r.unit r.mode) (λ r. AllByRecursion Q (mode_places pins r)) (λ r h. All-map Q (pin_place r) (pins_of r.unit pins) (all_of (λ p. Q (pin_place r p)) (λ p. h) (pins_of r.unit pins))) modes all) in
       let many = length-map bounds place_of in
-      all-has Q (map place_of bounds) (place_of b) (subst (All Q) (sym stand) each) (j, omega arith, λ d. get_or-map place_of bounds j b d lt ∙ ap place_of (at b))
+      all-has Q (map place_of bounds) (place_of b) (subst (AllByRecursion Q) (sym stand) each) (j, omega arith, λ d. get_or-map place_of bounds j b d lt ∙ ap place_of (at b))

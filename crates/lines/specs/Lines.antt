@@ -1,6 +1,6 @@
 -- What the lines of the sheets say of the platform that they describe. Assumes nothing.
 use Rattle.std.specs.Prelude.{◌≡◌, ℕ, ◌+◌, ◌<◌, List, length}
-use Rattle.std.specs.List.{ContainsAt as Has, AllByRecursion as All}
+use Rattle.std.specs.List.{ContainsAt as Has, AllByRecursion}
 use Rattle.sheets.specs.declared.rows.PinRow.{PinRow}
 use Rattle.sheets.specs.declared.rows.ModeRow.{ModeRow}
 use Rattle.sheets.specs.declared.rows.BoundRow.{BoundRow}
@@ -61,11 +61,11 @@ pub record BoundsSaid (rows : Rows) (k m p : ℕ) : Type 0 where
 
 -- what each line says is so of the model, and what the model has is said by a line
 pub record Holds (rows : Rows) (model : Model) : Type 0 where
-  pub pins : All (PinHolds model.units) rows.pins
-  pub modes : All (ModeHolds model.units) rows.modes
-  pub bounds : All (BoundsHold model.units) rows.bounds
+  pub pins : AllByRecursion (PinHolds model.units) rows.pins
+  pub modes : AllByRecursion (ModeHolds model.units) rows.modes
+  pub bounds : AllByRecursion (BoundsHold model.units) rows.bounds
   -- each pin is on one of the rails
-  pub rails : All (λ r. r.rail < model.rails) rows.pins
+  pub rails : AllByRecursion (λ r. r.rail < model.rails) rows.pins
   -- and some pin is on the last of them
   pub rails_said : (r : PinRow) × Has rows.pins r × (r.rail + 1 ≡ model.rails)
   -- no unit is there without a line: its first pin has one

@@ -1,6 +1,6 @@
 -- A run that is advanced often enough is at its end, and says so. Assumes nothing.
 use Rattle.std.proofs.Common.{◌≡◌, ℕ, ◌+◌, ◌-◌, ◌≤◌, List, [], ◌∷◌, ◌++◌, length, refl, ap, arith}
-use Rattle.std.specs.List.{AllByRecursion as All}
+use Rattle.std.specs.List.{AllByRecursion}
 use Rattle.platform.specs.Units.{Device}
 use Rattle.boards.specs.Meaning.{Meaning}
 use Rattle.histories.specs.declared.run.Answer.{Answer}
@@ -20,7 +20,7 @@ use Rattle.openings.proofs.Ends.{at_end}
 use Rattle.openings.proofs.Due.{due_at, due_most, due_falls, none_due}
 
 -- what holds of each element of a list in two parts
-all_split : {A : Type 0} (P : A → Type 0) (xs ys : List A) → All P (xs ++ ys) → All P xs × All P ys
+all_split : {A : Type 0} (P : A → Type 0) (xs ys : List A) → AllByRecursion P (xs ++ ys) → AllByRecursion P xs × AllByRecursion P ys
 all_split P [] ys h = (tt, h)
 all_split P (x ∷ xs) ys h = let w = all_split P xs ys h.1 in ((h.0, w.0), w.1)
 
@@ -55,7 +55,7 @@ module _ {units : List Device} {q : Plan} (o : Ground units q) where
   call_falls c (kept_open lo hi) u = (omega arith, tt)
 
   -- and so a history
-  history_falls : {x y : State Meaning} {calls : List Call} {outs : List Outcome} {ms bs : List Meaning} → Keeps q x → History (meanings q) q x calls outs ms bs y → All Ungranted outs → (due_at q y ≤ due_at q x - advances calls) × IsOpen y
+  history_falls : {x y : State Meaning} {calls : List Call} {outs : List Outcome} {ms bs : List Meaning} → Keeps q x → History (meanings q) q x calls outs ms bs y → AllByRecursion Ungranted outs → (due_at q y ≤ due_at q x - advances calls) × IsOpen y
   history_falls c begun u = (omega arith, tt)
   history_falls c (then {calls} {outs} {call} {out} h s) u =
       let us = all_split Ungranted outs (out ∷ []) u in

@@ -1,6 +1,6 @@
 -- No end of any rail at any place is above the ceiling. Assumes nothing.
 use Rattle.std.proofs.Common.{ℕ, zero, suc, ◌<◌, ◌≤◌, true, false, cond, eqb, List, [], ◌∷◌, drop}
-use Rattle.std.specs.List.{AllByRecursion as All}
+use Rattle.std.specs.List.{AllByRecursion}
 use Rattle.std.proofs.ByRecursion.{All-drop}
 use Rattle.histories.specs.declared.rail.Rail.{Rail}
 use Rattle.histories.specs.declared.rail.Rail.TheVariants.{Still, Moving}
@@ -14,7 +14,7 @@ use Rattle.openings.specs.Openings.{Low, Suits}
 abbrev pub LowRail : ℕ → Rail → Type 0
 LowRail c s = (origin_of s ≤ c) × (end_of s ≤ c)
 
-low_stepped : (c : ℕ) (l : List Step) (rails : ℕ → Rail) (i : ℕ) → All (Low c) l → LowRail c (rails i) → LowRail c (stepped l rails i)
+low_stepped : (c : ℕ) (l : List Step) (rails : ℕ → Rail) (i : ℕ) → AllByRecursion (Low c) l → LowRail c (rails i) → LowRail c (stepped l rails i)
 low_stepped c [] rails i a h = h
 low_stepped c (Start r t ∷ rest) rails i a h =
     elim (eqb i r) as (λ b. LowRail c (cond b (Moving (end_of (rails i)) t) (rails i))) [ true ↦ (h.1, a.0) | false ↦ h ]

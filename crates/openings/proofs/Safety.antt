@@ -1,7 +1,7 @@
 -- At each moment of a run every unit is in some mode. Assumes nothing.
 use Rattle.std.proofs.Common.{ℕ, suc, ◌<◌, ◌≤◌, ◌≢◌, List, [], ◌∷◌, length, sym, refl, ◌∙◌, arith}
 use native.Mathlib.Decide.{dec_lt}
-use Rattle.std.specs.List.{AllByRecursion as All}
+use Rattle.std.specs.List.{AllByRecursion}
 use Rattle.std.proofs.ByRecursion.{All-append, All-weaker}
 use Rattle.platform.specs.Units.{Device}
 use Rattle.boards.specs.Meaning.{Meaning, Between, Started, Polled}
@@ -25,7 +25,7 @@ record Turning (n p : ℕ) (rails : ℕ → Rail) (d d' : Direction) (i : ℕ) (
   sent : (j : ℕ) → j < n → j < i → Holds d (rails j) (b.value j) (b.target j)
   left : (j : ℕ) → j < n → i ≤ j → Holds d' (rails j) (b.value j) (b.target j)
   patient : (j : ℕ) → j < n → b.credit j ≤ p
-  moments : All (λ m. InSpans n rails m.value) ms
+  moments : AllByRecursion (λ m. InSpans n rails m.value) ms
 
 module _ {n p : ℕ} {rails : ℕ → Rail} {d : Direction} (d' : Direction) where
   -- every rail has a value in its span

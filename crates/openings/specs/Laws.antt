@@ -1,6 +1,6 @@
 -- What holds of every history from its opening to its close. Assumes nothing.
 use Rattle.std.specs.Prelude.{◌≡◌, ℕ, ◌+◌, ◌*◌, ◌<◌, ◌≤◌, List, [], ◌∷◌}
-use Rattle.std.specs.List.{AllByRecursion as All}
+use Rattle.std.specs.List.{AllByRecursion}
 use Rattle.platform.specs.Units.{Device}
 use Rattle.platform.specs.Rules.{Sound}
 use Rattle.boards.specs.Meaning.{Meaning, Stands}
@@ -17,7 +17,7 @@ use Rattle.openings.specs.Runs.{meanings, State, at, shut, Called, History}
 
 -- at each of these moments of a board with n rails every unit is in some mode
 abbrev pub AllInModes : ℕ → List Device → List Meaning → Type 0
-AllInModes n units moments = All (λ m. InModes units (mix_of n m.value)) moments
+AllInModes n units moments = AllByRecursion (λ m. InModes units (mix_of n m.value)) moments
 
 -- no turn or close was granted
 abbrev pub Ungranted : Outcome → Type 0
@@ -59,7 +59,7 @@ Reaches =
     → Begins units q count b
     → History (meanings q) q (at 0 Direction.Forward b) calls outs moments left (at k d m)
     → History (meanings q) q (at k d m) more outs' moments' left' x
-    → All Ungranted outs'
+    → AllByRecursion Ungranted outs'
     → steps_left q k d + waits_left q k d * q.patience ≤ advances more
     → AtEnd q x
 

@@ -1,6 +1,6 @@
 -- Scripts in form, and when a run is opened. Assumes nothing.
 use Rattle.std.specs.Prelude.{◌≡◌, ℕ, suc, ◌<◌, ◌≤◌, false, List, length, drop}
-use Rattle.std.specs.List.{AllByRecursion as All}
+use Rattle.std.specs.List.{AllByRecursion}
 use Rattle.platform.specs.Units.{Device, Resting}
 use Rattle.boards.specs.Meaning.{Meaning}
 use Rattle.histories.specs.declared.step.Step.{Step}
@@ -43,7 +43,7 @@ Low ceiling (Wait r) = Unit {0}
 pub record Suits (q : Plan) (count : ℕ) : Type 0 where
   pub counted : count ≡ q.rails
   pub values : (i : ℕ) → i < q.rails → q.first i ≤ q.ceiling
-  pub targets : All (Low q.ceiling) q.script
+  pub targets : AllByRecursion (Low q.ceiling) q.script
 
 -- every rail of the board is at its first value and not pending
 abbrev pub Standing : Plan → Meaning → Type 0

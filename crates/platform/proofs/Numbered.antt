@@ -1,13 +1,13 @@
 -- Rows that number things within units: how many each unit has. Assumes nothing.
 use Rattle.std.proofs.Common.{◌≡◌, ℕ, ◌+◌, ◌<◌, ◌≤◌, Bool, true, false, cond, eqb, List, [], ◌∷◌, ◌++◌, length, filter, sym, refl, ap, ◌∙◌, subst, inl, inr, ⊎_elim, append_assoc, append-nil, arith, length-append}
-use Rattle.std.specs.List.{AllByRecursion as All}
+use Rattle.std.specs.List.{AllByRecursion}
 use Rattle.std.proofs.lemmas.List.Elements.{filter-append}
 use Rattle.std.proofs.lemmas.Bool.{cases_lt, eq-eqb, ne_eqb}
 use Rattle.sheet.specs.Sheets.{Sheet, After, Fits, GoodAfter, Good}
 use Rattle.sheets.specs.Turns.{Begins, Follows}
 
 -- each row is within its ranges, and its low is not above its high
-pub all_fit : {Row : Type 0} (s : Sheet Row) (b rs : List Row) → GoodAfter s b rs → All (λ r. s.Ranged r × s.Level r) rs
+pub all_fit : {Row : Type 0} (s : Sheet Row) (b rs : List Row) → GoodAfter s b rs → AllByRecursion (λ r. s.Ranged r × s.Level r) rs
 all_fit s b [] h = tt
 all_fit s b (r ∷ rs) h = ((h.0.ranged, h.0.level), all_fit s (b ++ r ∷ []) rs h.1)
 

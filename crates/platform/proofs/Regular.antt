@@ -4,7 +4,7 @@ use mathlib.Core.Logic.{∥∥₁_elim}
 use mathlib.Core.HLevel.{Π_prop, ×_prop, ⊥_prop}
 use native.Mathlib.Bridge.{le_prop}
 use lib.ListN.{length-map}
-use Rattle.std.specs.List.{AllByRecursion as All}
+use Rattle.std.specs.List.{AllByRecursion}
 use Rattle.std.proofs.lemmas.List.FromFn.{length-map-range_with_len, get_or-map-range_with_len}
 use Rattle.std.proofs.ByRecursion.{All-get_or, all_kept_by, All-map, All-weaker}
 use Rattle.std.proofs.lemmas.List.{same_from_push, get_or_past, length_push}
@@ -45,24 +45,24 @@ regular_prop rows =
     (×_prop (Π_prop (λ k. Π_prop (λ h. Π_prop (λ p. Π_prop (λ q. le_prop)))))
     (Π_prop (λ k. Π_prop (λ h. Π_prop (λ m. Π_prop (λ p. Π_prop (λ q. ⊥_prop))))))))))))
 
-pub below_count : (rows : List PinRow) → All (λ r. r.rail < rail_count rows) rows
+pub below_count : (rows : List PinRow) → AllByRecursion (λ r. r.rail < rail_count rows) rows
 below_count [] = tt
 below_count (r ∷ rows) = (omega arith, All-weaker (λ x. x.rail < rail_count rows) (λ x. x.rail < rail_count (r ∷ rows)) (λ x h. omega arith) rows (below_count rows))
 
-few_rails : (rows : List PinRow) → All (λ r. r.rail ≤ 23) rows → rail_count rows ≤ 24
+few_rails : (rows : List PinRow) → AllByRecursion (λ r. r.rail ≤ 23) rows → rail_count rows ≤ 24
 few_rails [] h = omega arith
 few_rails (r ∷ rows) h = omega (arith, few_rails rows h.1, h.0)
 
-level_at : (bs : List Bounds) → All (λ b. b.low ≤ b.high) bs → (p : ℕ) → (bounds_at bs p).high < (bounds_at bs p).low → ⊥
+level_at : (bs : List Bounds) → AllByRecursion (λ b. b.low ≤ b.high) bs → (p : ℕ) → (bounds_at bs p).high < (bounds_at bs p).low → ⊥
 level_at bs all p bad = ⊎_elim (λ lt. let h = All-get_or (λ b. b.low ≤ b.high) bs p no_bounds lt all in omega arith) (λ past. let e = get_or_past bs p no_bounds past in omega (arith, ap (λ b. b.low) e, ap (λ b. b.high) e)) (cases_lt p (length bs))
 
-four_level : (bs : List Bounds) → All (λ b. b.low ≤ b.high) bs → All (λ b. b.low ≤ b.high) (four bs)
+four_level : (bs : List Bounds) → AllByRecursion (λ b. b.low ≤ b.high) bs → AllByRecursion (λ b. b.low ≤ b.high) (four bs)
 four_level bs all = (at 0, (at 1, (at 2, (at 3, tt))))
   where
     at : (p : ℕ) → (bounds_at bs p).low ≤ (bounds_at bs p).high
     at p = ⊎_elim (λ bad. absurd (level_at bs all p bad)) (λ good. good) (cases_lt (bounds_at bs p).high (bounds_at bs p).low)
 
-at_last : {X : Type 0} (P : X → Type 0) (before : List X) (e : X) → All P (before ++ e ∷ []) → P e
+at_last : {X : Type 0} (P : X → Type 0) (before : List X) (e : X) → AllByRecursion P (before ++ e ∷ []) → P e
 at_last P [] e h = h.0
 at_last P (x ∷ before) e h = at_last P before e h.1
 
@@ -89,11 +89,11 @@ module _ (rows : Rows) (kept : Kept rows.pins rows.modes rows.bounds rows.demand
   last_unit : n ≡ pin_rows.last.unit + 1
   last_unit = ap unit_count pin_rows.ends ∙ count_end pin_rows.before pin_rows.last
 
-  pins_fit : All (λ r. PinRanged r × Unit {0}) rows.pins
+  pins_fit : AllByRecursion (λ r. PinRanged r × Unit {0}) rows.pins
   pins_fit = all_fit pin_sheet [] rows.pins kept.pins_keep.good
 
   low_units : pin_rows.last.unit ≤ 23
-  low_units = (at_last (λ r. PinRanged r × Unit {0}) pin_rows.before pin_rows.last (subst (All (λ r. PinRanged r × Unit {0})) pin_rows.ends pins_fit)).0.unit
+  low_units = (at_last (λ r. PinRanged r × Unit {0}) pin_rows.before pin_rows.last (subst (AllByRecursion (λ r. PinRanged r × Unit {0})) pin_rows.ends pins_fit)).0.unit
 
   modes_some : 0 < length rows.modes
   modes_some = let e = kept.modes_keep.whole in omega (arith, ap length e.whole, length_push e.before e.last)
@@ -107,7 +107,7 @@ module _ (rows : Rows) (kept : Kept rows.pins rows.modes rows.bounds rows.demand
       let same = same_from_push mode_rows.before e.before mode_rows.last e.last (sym mode_rows.ends ∙ e.whole) in
       sym e.holds ∙ ap (λ r. r.unit + 1) (sym same.1)
 
-  modes_fit : All (λ r. ModeRanged r × Unit {0}) rows.modes
+  modes_fit : AllByRecursion (λ r. ModeRanged r × Unit {0}) rows.modes
   modes_fit = all_fit (mode_sheet n) [] rows.modes kept.modes_keep.good
 
   own_modes : (P : Mode → Type 0) → ((r : ModeRow) → ModeRanged r → P (mode_from rows.bounds r)) → (k m : ℕ) → m < length (unit_from rows k).modes → P (mode_at (unit_from rows k) m)
@@ -115,7 +115,7 @@ module _ (rows : Rows) (kept : Kept rows.pins rows.modes rows.bounds rows.demand
       All-get_or P (unit_from rows k).modes m no_mode lt
       (All-map P (mode_from rows.bounds) (modes_of k rows.modes) (all_kept_by (mode_in_unit k) (λ r. P (mode_from rows.bounds r)) rows.modes (All-weaker (λ r. ModeRanged r × Unit {0}) (λ r. P (mode_from rows.bounds r)) (λ r f. h r f.0) rows.modes modes_fit)))
 
-  own_bounds : (k m : ℕ) → All (λ b. b.low ≤ b.high) (bounds_of k m rows.bounds)
+  own_bounds : (k m : ℕ) → AllByRecursion (λ b. b.low ≤ b.high) (bounds_of k m rows.bounds)
   own_bounds k m =
       All-map (λ b. b.low ≤ b.high) bounds_from _ (all_kept_by (bound_in_mode k m) (λ r. r.low ≤ r.high) rows.bounds (All-weaker _ (λ r. r.low ≤ r.high) (λ r f. f.1) rows.bounds (all_fit (bound_sheet _) [] rows.bounds kept.bounds_keep.good)))
 
@@ -143,7 +143,7 @@ module _ (rows : Rows) (kept : Kept rows.pins rows.modes rows.bounds rows.demand
               each Mild (λ k lt. own_modes (λ m. m.draw ≤ 1000000) (λ r f. f.draw) k),
               (
                 each Cool (λ k lt. own_modes (λ m. m.heat ≤ 15) (λ r f. f.heat) k),
-                each Level (λ k lt m p h. let all = own_modes (λ x. All (λ b. b.low ≤ b.high) x.bounds) (λ r f. four_level _ (own_bounds r.unit r.mode)) k m h.0 in level_at _ all p h.2),
+                each Level (λ k lt m p h. let all = own_modes (λ x. AllByRecursion (λ b. b.low ≤ b.high) x.bounds) (λ r f. four_level _ (own_bounds r.unit r.mode)) k m h.0 in level_at _ all p h.2),
               ),
             ),
           ),

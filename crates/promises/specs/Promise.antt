@@ -1,6 +1,6 @@
 -- What is promised of a run from its opening to its close. Assumes nothing.
 use Rattle.std.specs.Prelude.{◌≡◌, ℕ, ◌+◌, ◌*◌, ◌<◌, ◌≤◌, List, map, take, drop, Ok, Err, Result}
-use Rattle.std.specs.List.{AllByRecursion as All}
+use Rattle.std.specs.List.{AllByRecursion}
 use Rattle.platform.specs.declared.parts.Mix.{Mix}
 use Rattle.platform.specs.Units.{Device}
 use Rattle.platform.specs.Describing.{Model}
@@ -45,7 +45,7 @@ AlwaysArrives {B} make q b =
     (more : List Call) (outs' : List Outcome) (moments' left' : List B) (x : State B)
     → History (boards make) q (at 0 Forward b) calls outs moments left (at k d m)
     → History (boards make) q (at k d m) more outs' moments' left' x
-    → All Ungranted outs'
+    → AllByRecursion Ungranted outs'
     → steps_left q k d + waits_left q k d * q.patience ≤ advances more
     → AtEnd q (meant_state make x)
 

@@ -1,6 +1,6 @@
 // Whether a board suits a run: its count, and its ceiling against every value of the run.
 ghost use Rattle.std.specs.Prelude.{ℕ, ◌<◌, ◌≤◌, Decides};
-ghost use Rattle.std.specs.List.{AllByRecursion as All};
+ghost use Rattle.std.specs.List.{AllByRecursion};
 ghost use Rattle.platform.specs.Units.{value_of};
 ghost use Rattle.openings.specs.Openings.{Low, Suits};
 ghost use Rattle.runs.specs.Working.{plan, Suited};
@@ -34,7 +34,7 @@ fn step_low(step: Step, top: u16) -> bool
 
 // Is no target of the script above the top?
 fn targets_low(script: &[Step], top: u16) -> bool
-    ensures { Decides result (All (Low top) script.now) }
+    ensures { Decides result (AllByRecursion (Low top) script.now) }
 {
     for k in 0..script.len() {
         if !step_low(script[k], top) {

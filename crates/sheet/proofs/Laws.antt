@@ -1,6 +1,6 @@
 -- Bytes are read in one way only. Assumes nothing.
 use Rattle.std.proofs.Common.{◌≡◌, ℕ, ◌^◌, ◌<◌, ◌⊎◌, List, [], ◌∷◌, ◌++◌, length, decimal, sym, refl, ap, ◌∙◌, subst, inl, inr, ⊎_elim, append_assoc, append-nil, arith, length-append}
-use Rattle.std.specs.List.{flat_map, AllByRecursion as All}
+use Rattle.std.specs.List.{flat_map, AllByRecursion}
 use Rattle.std.specs.Str.Parse.{AllDigits}
 use Rattle.std.proofs.lemmas.Fmt.{decimal_is_IsNumeral}
 use Rattle.std.proofs.lemmas.Str.Parse.{digit_from_value}
@@ -9,7 +9,7 @@ use Rattle.answers.specs.Checks.{Pass}
 use Rattle.sheet.specs.Sheets.{Sheet, Inner, Plain, line, written, Fits, GoodAfter, Starts, checks, Lawful}
 
 -- a text before the first mark is told by the whole
-pub cut_same : (P : ℕ → Type 0) (f g r q : List ℕ) (x y : ℕ) → All P f → All P g → (P x → ⊥) → (P y → ⊥) → f ++ x ∷ r ≡ g ++ y ∷ q → (f ≡ g) × (x ≡ y) × (r ≡ q)
+pub cut_same : (P : ℕ → Type 0) (f g r q : List ℕ) (x y : ℕ) → AllByRecursion P f → AllByRecursion P g → (P x → ⊥) → (P y → ⊥) → f ++ x ∷ r ≡ g ++ y ∷ q → (f ≡ g) × (x ≡ y) × (r ≡ q)
 cut_same P [] [] r q x y a b nx ny e = (refl, cc, cc)
 cut_same P [] (c ∷ g) r q x y a b nx ny e = let same : c ≡ x = cc in absurd (nx (subst P same b.0))
 cut_same P (c ∷ f) [] r q x y a b nx ny e = let same : c ≡ y = cc in absurd (ny (subst P same a.0))
@@ -31,7 +31,7 @@ last_field f r = append_assoc f (10 ∷ []) r
 next_field : (f g : List ℕ) (fs : List (List ℕ)) (r : List ℕ) → line (f ∷ g ∷ fs) ++ r ≡ f ++ 44 ∷ (line (g ∷ fs) ++ r)
 next_field f g fs r = simp append_assoc
 
-pub line_same : (fs gs : List (List ℕ)) (r q : List ℕ) → 0 < length fs → 0 < length gs → All Plain fs → All Plain gs → line fs ++ r ≡ line gs ++ q → (fs ≡ gs) × (r ≡ q)
+pub line_same : (fs gs : List (List ℕ)) (r q : List ℕ) → 0 < length fs → 0 < length gs → AllByRecursion Plain fs → AllByRecursion Plain gs → line fs ++ r ≡ line gs ++ q → (fs ≡ gs) × (r ≡ q)
 line_same [] gs r q m n a b e = absurd (omega arith)
 line_same (f ∷ fs) [] r q m n a b e = absurd (omega arith)
 line_same (f ∷ []) (g ∷ []) r q m n a b e =

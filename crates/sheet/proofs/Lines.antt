@@ -1,6 +1,6 @@
 -- One line, as the reader takes it apart. Assumes nothing.
 use Rattle.std.proofs.Common.{◌≡◌, ℕ, zero, suc, ◌+◌, ◌<◌, ◌≤◌, Bool, true, false, not, List, [], ◌∷◌, ◌++◌, length, get_or, take, drop, Decides, sym, refl, ap, ◌∙◌, subst, inr, ⊎_elim, append_assoc, append-nil, arith, length-append}
-use Rattle.std.specs.List.{flat_map, AllByRecursion as All}
+use Rattle.std.specs.List.{flat_map, AllByRecursion}
 use Rattle.std.proofs.lemmas.List.{take_all, take_more, nil_from_length, flat_map_more, length_push}
 use Rattle.std.proofs.str.Laws.{order}
 use Rattle.text.specs.Written.{Lacks, commas, Fields}
@@ -44,7 +44,7 @@ back_lacks : (xs ys : List ℕ) → Lacks 10 (xs ++ ys) → Lacks 10 ys
 back_lacks [] ys a = a
 back_lacks (x ∷ xs) ys a = back_lacks xs ys a.1
 
-all_plain : (fs : List (List ℕ)) → All (Lacks 44) fs → Lacks 10 (commas fs) → All Plain fs
+all_plain : (fs : List (List ℕ)) → AllByRecursion (Lacks 44) fs → Lacks 10 (commas fs) → AllByRecursion Plain fs
 all_plain [] a b = tt
 all_plain (f ∷ []) a b = (both f a.0 b, tt)
 all_plain (f ∷ g ∷ fs) a b = (both f a.0 (front_lacks f _ b), all_plain (g ∷ fs) a.1 (back_lacks f _ b).1)
@@ -52,7 +52,7 @@ all_plain (f ∷ g ∷ fs) a b = (both f a.0 (front_lacks f _ b), all_plain (g �
 -- the line that begins rest, and what is after it
 pub record Line (rest : List ℕ) (fs : List (List ℕ)) (after : List ℕ) : Type 0 where
   pub front : rest ≡ line fs ++ after
-  pub plain : All Plain fs
+  pub plain : AllByRecursion Plain fs
   pub some : 0 < length fs
 
 pub line_cut : {rest front : List ℕ} {fs : List (List ℕ)} (i : ℕ) → i < length rest → get_or rest i 0 ≡ 10 → Lacks 10 (take i rest) → front ≡ take i rest → Fields fs front → Line rest fs (drop (i + 1) rest)

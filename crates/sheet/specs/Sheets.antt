@@ -1,6 +1,6 @@
 -- What a sheet is, which rows its bytes hold, and what is wrong with bytes that hold none. Assumes nothing.
 use Rattle.std.specs.Prelude.{◌≡◌, ℕ, zero, suc, ◌+◌, ◌<◌, ◌≤◌, ◌⊎◌, List, [], ◌∷◌, ◌++◌, length, Ok, Err, Result, ◌≢◌}
-use Rattle.std.specs.List.{flat_map, AllByRecursion as All}
+use Rattle.std.specs.List.{flat_map, AllByRecursion}
 use Rattle.text.specs.Written.{Lacks, commas}
 use Rattle.answers.specs.Checks.{FirstBad}
 use Rattle.answers.specs.Sequels.{One, Only}
@@ -51,7 +51,7 @@ abbrev pub Inner : ℕ → Type 0
 Inner b = (b ≢ 44) × (b ≢ 10)
 
 abbrev pub Plain : List ℕ → Type 0
-Plain f = All Inner f
+Plain f = AllByRecursion Inner f
 
 -- fields as a line
 abbrev pub line : List (List ℕ) → List ℕ
@@ -83,7 +83,7 @@ module _ {Row : Type 0} (s : Sheet Row) where
   pub record Shaped (bs : List ℕ) (fs : List (List ℕ)) : Type 0 where
     pub rest : List ℕ
     pub front : bs ≡ line fs ++ rest
-    pub plain : All Plain fs
+    pub plain : AllByRecursion Plain fs
     pub width : length fs ≡ s.width
 
   -- the bytes begin with this row, which is within its ranges
@@ -182,7 +182,7 @@ module _ {Row : Type 0} (s : Sheet Row) where
 pub record Lawful {Row : Type 0} (s : Sheet Row) : Type 0 where
   pub some : 0 < s.width
   pub fill : (r : Row) → s.Ranged r → length (s.fields r) ≡ s.width
-  pub plain : (r : Row) → s.Ranged r → All Plain (s.fields r)
+  pub plain : (r : Row) → s.Ranged r → AllByRecursion Plain (s.fields r)
   pub same : (r t : Row) → s.Ranged r → s.Ranged t → s.fields r ≡ s.fields t → r ≡ t
   -- the names line has no line end in it
   pub named : Lacks 10 s.names

@@ -20,7 +20,7 @@ impl RelayBoard {
         let mut rails = [at_rest(0, 0); 24];
         for i in 0..count as usize {
             let mv = first.values[i];
-            if mv > <RelayBoard as crate::meaning::Board>::CEILING {
+            if mv > RelayBoard::CEILING {
                 return Err(BoardFault::OutOfRange);
             }
             rails[i] = at_rest(delays[i], mv);

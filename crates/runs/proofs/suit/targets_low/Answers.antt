@@ -1,5 +1,5 @@
 use Rattle.std.proofs.Common.{◌≡◌, ℕ, ◌≤◌, length, refl, subst, arith}
-use Rattle.std.specs.List.{AllByRecursion as All}
+use Rattle.std.specs.List.{AllByRecursion}
 use Rattle.std.proofs.ByRecursion.{All-get_or, All-more}
 use Rattle.std.proofs.lemmas.List.{take_all}
 use Rattle.histories.specs.declared.step.Step.TheVariants.{Start}
@@ -17,4 +17,4 @@ loop-k-preserved c =
 pub returns : goal.returns
 returns c =
     let whole : length c.args.script.now ≤ c.loop-k.k = omega (arith, c.loop-k-test.false) in
-    (λ e. subst (All (Low c.args.top)) (take_all c.loop-k.k c.args.script.now whole) c.loop-k.invariant, λ h. refl)
+    (λ e. subst (AllByRecursion (Low c.args.top)) (take_all c.loop-k.k c.args.script.now whole) c.loop-k.invariant, λ h. refl)
