@@ -4,9 +4,9 @@ use Rattle.boards.specs.declared.ramp.RampBench.{RampBench}
 use Rattle.boards.specs.declared.relay.RelayBoard.{RelayBoard}
 use Rattle.layers.specs.declared.steady.Steady.{Steady}
 use Rattle.boards.specs.Ramp.{apart, towards, rates, RampStarted, RampPolled}
-use Rattle.boards.specs.Ramp.{values as ramp-values}
+use Rattle.boards.specs.Ramp.{values as ramp_values}
 use Rattle.boards.specs.Relay.{delays, RelayStarted, RelayPolled}
-use Rattle.boards.specs.Relay.{values as relay-values}
+use Rattle.boards.specs.Relay.{values as relay_values}
 use Rattle.layers.specs.Steady.{SteadyStarted, SteadyPolled}
 use Rattle.makes.specs.Calls.{Ask, rail_of, Since, answers}
 
@@ -18,8 +18,8 @@ RampArrives =
     → RampStarted b r t b'
     → Since RampStarted RampPolled r b' asks b''
     → RampPolled b'' r answer b'''
-    → (ramp-values b''' r ≡ towards (ramp-values b r) t ((length asks + 1) * rates b r))
-    × (answer ≡ nat_le (apart (ramp-values b r) t) ((length asks + 1) * rates b r))
+    → (ramp_values b''' r ≡ towards (ramp_values b r) t ((length asks + 1) * rates b r))
+    × (answer ≡ nat_le (apart (ramp_values b r) t) ((length asks + 1) * rates b r))
 
 -- a relay answers no as often as its delay says, and stays; then it answers yes, at its target
 abbrev pub RelayWaits : Type 0
@@ -30,7 +30,7 @@ RelayWaits =
     → Since RelayStarted RelayPolled r b' asks b''
     → RelayPolled b'' r answer b'''
     → (answer ≡ nat_le (delays b r) (length (answers r asks)))
-    × (relay-values b''' r ≡ cond answer t (relay-values b r))
+    × (relay_values b''' r ≡ cond answer t (relay_values b r))
 
 -- what a layer did to the board below: one poll for each of its own, the last of rail r; its answer is yes exactly when the last k answers of r were
 pub record Runs {B : Type 0} (starts : B → ℕ → ℕ → B → Type 0) (polls : B → ℕ → Bool → B → Type 0) (k r : ℕ) (b : B) (asks : List Ask) (answer : Bool) (b' : B) : Type 0 where

@@ -58,8 +58,8 @@ module _ (n : ℕ) (units : List Device) where
   start_safe rails m r t rest l v lt e s mix h =
       s mix (by_rail (λ i. InSpan (stepped (Start r t ∷ rest) rails i) (value_of mix i)) n r
       (let was : Between (m r) t (value_of mix r) = rw (start_here (λ i. Still (m i)) r t (m r) l refl) at (h r lt) in
-      let at-v : m r ≡ v.0 = e r lt ∙ ap end_of v.1 in
-      rw (start_here rails r t v.0 rest v.1) (rw at-v at was))
+      let at_v : m r ≡ v.0 = e r lt ∙ ap end_of v.1 in
+      rw (start_here rails r t v.0 rest v.1) (rw at_v at was))
       (λ i il ne.
       let was : value_of mix i ≡ m i = rw (start_there (λ i. Still (m i)) r t i l ne) at (h i il) in
       rw (start_there rails r t i rest ne, was ∙ e i il) (in_end (rails i))))
@@ -85,16 +85,16 @@ module _ (n : ℕ) (units : List Device) where
       let rd = (h 0 (omega arith)).0 in
       start_safe rails m r t rest (Wait r ∷ apart rest) rd.1 rd.0 e (h 1 (omega arith)).1
   apart_safe (Start r t ∷ rest) rails m h e (suc (suc k)) l =
-      let still-m : ℕ → Rail = λ i. Still (m i) in
-      let one : ℕ → Rail = stepped (Start r t ∷ Wait r ∷ apart rest) still-m in
+      let still_m : ℕ → Rail = λ i. Still (m i) in
+      let one : ℕ → Rail = stepped (Start r t ∷ Wait r ∷ apart rest) still_m in
       let two : ℕ → Rail = stepped (Wait r ∷ apart rest) one in
       let ih = apart_safe rest (stepped (Start r t ∷ rest) rails) (sent m r t) (sound_next rails (Start r t) rest h)
       (λ i il. ap (λ x. cond (eqb i r) t x) (e i il) ∙ sym (end_stepped (Start r t ∷ rest) rails i)) k (omega arith) in
-      safe_as (from (λ i. Still (sent m r t i)) (apart rest) k) (from still-m (Start r t ∷ Wait r ∷ apart rest) (suc (suc k)))
+      safe_as (from (λ i. Still (sent m r t i)) (apart rest) k) (from still_m (Start r t ∷ Wait r ∷ apart rest) (suc (suc k)))
       (λ i.
       from_same (λ j. Still (sent m r t j)) two (apart rest) k (λ j. sym (moved m r t (apart rest) (Wait r ∷ apart rest) j)) i
       ∙ sym (from_next one (Wait r) (apart rest) k i)
-      ∙ sym (from_next still-m (Start r t) (Wait r ∷ apart rest) (suc k) i))
+      ∙ sym (from_next still_m (Start r t) (Wait r ∷ apart rest) (suc k) i))
       ih
 
 -- a rail that is not started keeps its value
@@ -117,15 +117,15 @@ pub no_way_round : NoWayRound
 no_way_round units q last count b fit none changed ends op =
     let n = q.rails in
     let o = ground fit op in
-    let still-first : ℕ → Rail = λ i. Still (q.first i) in
-    let sound : Sound n units still-first q.script =
+    let still_first : ℕ → Rail = λ i. Still (q.first i) in
+    let sound : Sound n units still_first q.script =
     λ k l. (
-      ready_as n units (drop k q.script) (after q.first q.script k) (from still-first q.script k) (λ i. sym (from_after q.first q.script k i)) (o.formed k l),
-      safe_as n units (after q.first q.script k) (from still-first q.script k) (λ i. sym (from_after q.first q.script k i)) (safe_at o k l),
+      ready_as n units (drop k q.script) (after q.first q.script k) (from still_first q.script k) (λ i. sym (from_after q.first q.script k i)) (o.formed k l),
+      safe_as n units (after q.first q.script k) (from still_first q.script k) (λ i. sym (from_after q.first q.script k i)) (safe_at o k l),
     ) in
     let eq = apart_singly n units q.script q.first last changed.once (λ r m. ends r (changed.only r m).0) in
     let order = started q.script in
     none order changed
     (λ k l.
-    safe_as n units (from still-first (singly last order) (suc k)) (after q.first (singly last order) (suc k)) (from_after q.first (singly last order) (suc k))
-    (subst (λ s. suc k ≤ length s → Safe n units (from still-first s (suc k))) eq (apart_safe n units q.script still-first q.first sound (λ i il. refl) (suc k)) l))
+    safe_as n units (from still_first (singly last order) (suc k)) (after q.first (singly last order) (suc k)) (from_after q.first (singly last order) (suc k))
+    (subst (λ s. suc k ≤ length s → Safe n units (from still_first s (suc k))) eq (apart_safe n units q.script still_first q.first sound (λ i il. refl) (suc k)) l))

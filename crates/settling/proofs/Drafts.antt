@@ -15,8 +15,8 @@ module _ {C : Type 0} {t : Toll C} {units : List Device} {demands : List Demand}
 
   pub room_more : Laws t → (m : ℕ) → Room t d.cost (t.of (mode_at (unit_at units n) m))
   room_more laws m =
-      let of-next = t.of (mode_at (unit_at units n) m) in
-      subst (λ (x : C). Room t x of-next) (sym stands.cost) (cost_room laws units sound.1.mild sound.1.units_counted.1 n lt d.modes m)
+      let of_next = t.of (mode_at (unit_at units n) m) in
+      subst (λ (x : C). Room t x of_next) (sym stands.cost) (cost_room laws units sound.1.mild sound.1.units_counted.1 n lt d.modes m)
 
 -- e goes on from d with unit n in mode m
 module _ {C : Type 0} {t : Toll C} {units : List Device} {demands : List Demand} {n m : ℕ} {d e : Draft C} (laws : Laws t) (stands : Stands t units demands n d) (extends : Extends t (unit_at units n) n m d e) (long : n < length d.modes) where

@@ -37,14 +37,14 @@ module _ {C : Type 0} (t : Toll C) (units : List Device) (demands : List Demand)
         let stands = searched.found.0 in
         let some = searched.found.1 in
         let In : ℕ → ℕ → Type 0 = InWindow units demands d.modes in
-        let low-in : (r : ℕ) → r < 24 → In r (bounds_at d.windows r).low = λ r h. (stands.windows r h _).0 (omega arith, some r h) in
-        let inside : (r : ℕ) → r < 24 → In r (value_of targets.values r) = λ r h. subst (In r) (sym (lows r h)) (low-in r h) in
+        let low_in : (r : ℕ) → r < 24 → In r (bounds_at d.windows r).low = λ r h. (stands.windows r h _).0 (omega arith, some r h) in
+        let inside : (r : ℕ) → r < 24 → In r (value_of targets.values r) = λ r h. subst (In r) (sym (lows r h)) (low_in r h) in
         let mix = meets_rests rails units demands sound d.modes stands.rest targets.values inside in
         let covers : (c : List ℕ) → Fits units demands c → Covers t units demands (Some d) c = λ c fits. searched.covers c fits (λ k h. absurd (omega arith)) in
         record {
           known = known;
           least = record {
-            fits = record { rest = stands.rest; meet = λ r h. ((bounds_at d.windows r).low, low-in r h) };
+            fits = record { rest = stands.rest; meet = λ r h. ((bounds_at d.windows r).low, low_in r h) };
             cheapest = λ c fits. subst (λ (x : C). t.AtMost x (cost t units c)) stands.cost (covers c fits).0;
             first = λ c fits tie. (covers c fits).1 (subst (λ (x : C). t.AtMost (cost t units c) x) (sym stands.cost) tie);
           };

@@ -17,9 +17,9 @@ bounds low high = record { low = low; high = high }
 
 -- bounds that hold the same values, and one at least, are the same
 same_bounds : (a b : Bounds) → a.low ≤ a.high → b.low ≤ b.high → ((v : ℕ) → Within a v → Within b v) → ((v : ℕ) → Within b v → Within a v) → a ≡ b
-same_bounds a b some-a some-b there back =
-    let low : a.low ≡ b.low = omega (arith, there a.low (omega arith, some-a), back b.low (omega arith, some-b)) in
-    let high : a.high ≡ b.high = omega (arith, there a.high (some-a, omega arith), back b.high (some-b, omega arith)) in
+same_bounds a b some_a some_b there back =
+    let low : a.low ≡ b.low = omega (arith, there a.low (omega arith, some_a), back b.low (omega arith, some_b)) in
+    let high : a.high ≡ b.high = omega (arith, there a.high (some_a, omega arith), back b.high (some_b, omega arith)) in
     ap (λ l. bounds l a.high) low ∙ ap (bounds b.low) high
 
 abbrev built : {C : Type 0} → List ℕ → List Bounds → List ℕ → C → Settled C
@@ -55,7 +55,7 @@ module _ {C : Type 0} (t : Toll C) (rails : ℕ) (units : List Device) (demands 
       let In : List ℕ → ℕ → Type 0 = λ ms v. InWindow units demands ms r v in
       let v = x.least.fits.meet r h in
       let w = y.least.fits.meet r h in
-      let in-a = (x.windows r h v.0).1 v.1 in
+      let in_a = (x.windows r h v.0).1 v.1 in
       let in_b = (y.windows r h w.0).1 w.1 in
       same_bounds (bounds_at a.windows r) (bounds_at b.windows r) (omega arith) (omega arith)
       (λ u p. (y.windows r h u).1 (subst (λ (ms : List ℕ). In ms u) same_modes ((x.windows r h u).0 p)))

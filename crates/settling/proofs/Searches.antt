@@ -85,8 +85,8 @@ module _ {C : Type 0} {t : Toll C} {units : List Device} {demands : List Demand}
         found = (full, some);
         place = inr (λ k h. refl);
         covers = λ c fits same.
-            let same-cost : d.cost ≡ cost t units c = full.cost ∙ sym (cost_same laws units (length units) c d.modes (λ k h. same k (omega arith))) in
-            (subst (λ (x : C). t.AtMost d.cost x) same-cost (laws.reflexive d.cost), λ _ b. omega (arith, b.1.1.1, same b.0 (omega (arith, b.1.0))));
+            let same_cost : d.cost ≡ cost t units c = full.cost ∙ sym (cost_same laws units (length units) c d.modes (λ k h. same k (omega arith))) in
+            (subst (λ (x : C). t.AtMost d.cost x) same_cost (laws.reflexive d.cost), λ _ b. omega (arith, b.1.1.1, same b.0 (omega (arith, b.1.0))));
         keeps = keeps_found laws units demands d best short;
       }
 

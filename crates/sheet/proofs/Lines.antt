@@ -64,9 +64,9 @@ line_cut {rest = rest} {fs = fs} i l e a isFront h =
       some = h.some;
     }
 
-module _ {Row : Type 0} {s : Sheet Row} (law : Lawful s) (rows : List Row) {h : ℕ} (is-here : h ≡ s.number) where
+module _ {Row : Type 0} {s : Sheet Row} (law : Lawful s) (rows : List Row) {h : ℕ} (is_here : h ≡ s.number) where
   named : (k n : ℕ) → line_fault k h n ≡ line_fault k s.number n
-  named k n = ap (λ x. line_fault k x n) is-here
+  named k n = ap (λ x. line_fault k x n) is_here
 
   pub unended : {rest : List ℕ} (n i : ℕ) → 0 < length rest → length rest ≤ i → Lacks 10 (take i rest) → LineFault s rows rest n (line_fault 0 h n)
   unended {rest = rest} n i some l a =

@@ -12,7 +12,7 @@ module _ {X Y : Type 0} (f : X → Y) (p : X → Bool) (base : List Y) (xs : Lis
   more = filter_more p xs i d lt
 
   -- the element at i passes and is added
-  pub keeps_yes : {out more-out : List Y} → p (get_or xs i d) ≡ true → out ≡ base ++ map f (filter p (take i xs)) → more-out ≡ out ++ f (get_or xs i d) ∷ [] → more-out ≡ base ++ map f (filter p (take (i + 1) xs))
+  pub keeps_yes : {out more_out : List Y} → p (get_or xs i d) ≡ true → out ≡ base ++ map f (filter p (take i xs)) → more_out ≡ out ++ f (get_or xs i d) ∷ [] → more_out ≡ base ++ map f (filter p (take (i + 1) xs))
   keeps_yes t e is =
       is
       ∙ ap (λ l. l ++ f (get_or xs i d) ∷ []) e

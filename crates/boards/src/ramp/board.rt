@@ -1,7 +1,7 @@
 // The ramp bench as a board.
 ghost use Rattle.std.specs.Prelude.{◌≡◌, ℕ, ◌<◌};
 ghost use Rattle.boards.specs.Ramp.{rail_at, values, targets, pendings, credits, Moved, RampStarted, RampPolled};
-ghost use Rattle.std.proofs.Common.{rules, arith};
+ghost use Rattle.std.proofs.Common.{rules};
 
 use crate::fault::BoardFault;
 use crate::meaning::Board;
@@ -64,9 +64,9 @@ impl Board for RampBench {
 
     ghost polls = { RampPolled };
 
-    ghost counted = { first_of (Prim.search rules, Prim.grind (arith, Self.row.coded.inj)) };
+    ghost counted = { Prim.search rules };
 
-    ghost stands = { first_of (Prim.search rules, Prim.grind (arith, Self.row.coded.inj)) };
+    ghost stands = { Prim.search rules };
 
     fn top() -> u16 {
         Self::CEILING

@@ -1,6 +1,6 @@
 // The relay board as a board.
 ghost use Rattle.boards.specs.Relay.{values, targets, pendings, lefts, RelayStarted, RelayPolled};
-ghost use Rattle.std.proofs.Common.{rules, arith};
+ghost use Rattle.std.proofs.Common.{rules};
 
 use crate::fault::BoardFault;
 use crate::meaning::Board;
@@ -28,9 +28,9 @@ impl Board for RelayBoard {
 
     ghost polls = { RelayPolled };
 
-    ghost counted = { first_of (Prim.search rules, Prim.grind (arith, Self.row.coded.inj)) };
+    ghost counted = { Prim.search rules };
 
-    ghost stands = { first_of (Prim.search rules, Prim.grind (arith, Self.row.coded.inj)) };
+    ghost stands = { Prim.search rules };
 
     fn top() -> u16 {
         Self::CEILING
