@@ -1,6 +1,6 @@
+// Tests of the boards: starts and polls, up and down, layers over layers, refusals.
 #![tactic(auto)]
 
-// Tests of the boards: starts and polls, up and down, layers over layers, refusals.
 #[cfg(test)]
 mod tests {
     use boards::{Board, BoardFault, RampBench, RelayBoard};

@@ -1,6 +1,6 @@
+// Tests of safe spans on a small board: a supply on rail 0, a regulator from rail 0 to rail 1, a load on rail 1.
 #![tactic(auto)]
 
-// Tests of safe spans on a small board: a supply on rail 0, a regulator from rail 0 to rail 1, a load on rail 1.
 #[cfg(test)]
 mod tests {
     use platform::{Bounds, Inquiry, read_inquiry};
