@@ -1,3 +1,2 @@
-#![tactic(auto)]
-
 // What a call may answer: checks in their order, one call after another, and what a refusal says. Definitions and their laws, no code.
+#![tactic(auto)]
