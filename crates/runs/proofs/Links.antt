@@ -1,5 +1,5 @@
 -- The links of a history, from what the code has in hand. Assumes nothing.
-use Rattle.std.proofs.Common.{◌≡◌, ℕ, zero, suc, ◌+◌, ◌-◌, ◌<◌, ◌≤◌, Bool, false, List, [], ◌∷◌, length, drop, Some, None, Option, refl, ap, subst, add-one, arith, length-drop}
+use Rattle.std.proofs.Common.{◌≡◌, ℕ, zero, suc, ◌+◌, ◌-◌, ◌<◌, ◌≤◌, false, List, [], ◌∷◌, length, drop, Some, None, Option, refl, ap, subst, add-one, arith, length-drop}
 use Rattle.std.proofs.ByRecursion.{All-get_or}
 use Rattle.std.proofs.lemmas.List.{length-take-le}
 use Rattle.boards.specs.declared.meaning.Board.{Ghosts}
@@ -17,10 +17,6 @@ use Rattle.runs.specs.declared.journey.Journey.{Journey}
 use Rattle.runs.specs.Journeys.{rail_of, current}
 use Rattle.runs.specs.Working.{Asked, boards, plan_of, script_of, Same, Suited, Worked}
 use Rattle.runs.proofs.Places.{ahead, behind, none_ahead, step_here, rail_here}
-
--- an answer that is known
-pub asked_as : {B : Type 0} {make : Ghosts B} {b b' : B} {r : ℕ} {x y : Bool} → x ≡ y → Asked make b r x b' → Asked make b r y b'
-asked_as {make = make} {b} {b'} {r} e m = subst (λ z. Asked make b r z b') e m
 
 module _ {B : Type 0} (make : Ghosts B) (j : Journey) (b : B) (fits : Suited make j b) where
   -- the rail of the current step is one of the board's
