@@ -5,8 +5,8 @@ use Rattle.std.proofs.lemmas.List.{take_more, map_push}
 use Rattle.std.proofs.lemmas.List.FromFn.{map-range_with_len_more}
 use Rattle.sheets.specs.declared.rows.PinRow.{PinRow}
 use Rattle.sheets.specs.Reading.{Rows}
-use Rattle.platform.specs.declared.parts.Unit.{Unit}
-use Rattle.platform.specs.Units.{device, devices}
+use Rattle.platform.specs.declared.unit.Unit.{Unit}
+use Rattle.platform.specs.Devices.{device, devices}
 use Rattle.platform.specs.Describing.{unit_from, rail_count}
 
 pub rails_push : (xs : List PinRow) (r : PinRow) → rail_count (xs ++ r ∷ []) ≡ max (r.rail + 1) (rail_count xs)

@@ -154,3 +154,15 @@ module _ (rows : Rows) (kept : Kept rows.pins rows.modes rows.bounds rows.demand
 
 pub regular : (rows : Rows) → ∥ Kept rows.pins rows.modes rows.bounds rows.demands ∥₁ → Regular rows
 regular rows kept = ∥∥₁_elim kept (regular_prop rows) (regular_from rows)
+
+-- each unit that the rows describe by itself
+pub unit_regular : (rows : Rows) (k : ℕ) → ∥ Kept rows.pins rows.modes rows.bounds rows.demands ∥₁ → k < unit_count rows.pins → PinsCounted (unit_from rows k) × ModesCounted (unit_from rows k) × Wired 24 (unit_from rows k)
+unit_regular rows k kept lt =
+    let r = regular rows kept in
+    let e = length-map-range_with_len (unit_from rows) 0 (unit_count rows.pins) in
+    let there : k < length (described rows).units = omega (arith, e) in
+    let is = get_or-map-range_with_len (unit_from rows) 0 (unit_count rows.pins) k k no_device (omega (arith, e)) (omega arith) in (
+      subst PinsCounted is (r.1.1.0 k there),
+      subst ModesCounted is (r.1.1.1.0 k there),
+      subst (Wired 24) is (λ p h. omega (arith, r.1.1.1.1.0 k there p h, r.0.1)),
+    )

@@ -4,7 +4,8 @@ use Rattle.sheets.specs.Reading.{Rows}
 use Rattle.faults.specs.declared.platform.PlatformFault.{PlatformFault}
 use Rattle.faults.specs.declared.platform.PlatformFault.TheVariants.{Sheet, Twice, Driver, Memory}
 use Rattle.platform.specs.declared.platform.Platform.{Platform}
-use Rattle.platform.specs.Units.{Device, devices, unit_at}
+use Rattle.platform.specs.Units.{Device, unit_at}
+use Rattle.platform.specs.Devices.{devices}
 use Rattle.platform.specs.Rules.{Apart, Each, drivers, Driven}
 use Rattle.platform.specs.Describing.{Model, described}
 

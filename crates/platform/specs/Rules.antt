@@ -1,23 +1,24 @@
 -- The rules that every platform keeps. Assumes nothing.
-use Rattle.std.specs.Prelude.{◌≡◌, ℕ, ◌+◌, ◌<◌, ◌≤◌, cond, List, [], ◌∷◌, length, ◌==◌}
+use Rattle.std.specs.Prelude.{◌≡◌, ℕ, ◌<◌, ◌≤◌, Bool, true, false, ◌&&◌, List, length, ◌==◌, count_by, sum_by}
 use Rattle.sheets.specs.declared.rows.Way.{Way}
 use Rattle.sheets.specs.declared.rows.Way.TheVariants.{Drives, Loads}
 use Rattle.platform.specs.declared.parts.Pin.{Pin}
 use Rattle.platform.specs.Units.{Device, unit_at, rail_at, mode_at, pin_bounds}
 
--- 1 for a pin that drives the rail, 0 for any other
-abbrev pub drives : ℕ → Way → ℕ → ℕ
-drives r Drives s = cond (s == r) 1 0
-drives r Loads s = 0
+abbrev pub is_driving : Way → Bool
+is_driving Drives = true
+is_driving Loads = false
+
+-- whether a pin drives rail r
+abbrev pub drives : ℕ → Pin → Bool
+drives r p = is_driving p.way && p.rail == r
 
 -- how many of the pins drive rail r
 abbrev pub drivers_among : ℕ → List Pin → ℕ
-drivers_among r [] = 0
-drivers_among r (p ∷ ps) = drives r p.way p.rail + drivers_among r ps
+drivers_among r pins = count_by (drives r) pins
 
 abbrev pub drivers : ℕ → List Device → ℕ
-drivers r [] = 0
-drivers r (u ∷ us) = drivers_among r u.pins + drivers r us
+drivers r units = sum_by (λ u. drivers_among r u.pins) units
 
 -- of the first n pins none after p is on the rail of p
 abbrev pub AloneTo : ℕ → Device → ℕ → Type 0

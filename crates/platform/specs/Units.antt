@@ -1,22 +1,15 @@
 -- Units, their pins and modes, and what a mix puts them in. Assumes nothing.
-use Rattle.std.specs.Prelude.{◌≡◌, ℕ, ◌<◌, ◌≤◌, List, [], map, length, vec_items, slice_index, slice_index_or}
+use Rattle.std.specs.Prelude.{◌≡◌, ℕ, ◌<◌, ◌≤◌, List, [], length, slice_index, slice_index_or}
 use Rattle.sheets.specs.declared.rows.Kind.{Kind}
 use Rattle.sheets.specs.declared.rows.Way.{Way}
 use Rattle.platform.specs.declared.parts.Bounds.{Bounds}
 use Rattle.platform.specs.declared.parts.Pin.{Pin}
 use Rattle.platform.specs.declared.parts.Mode.{Mode}
-use Rattle.platform.specs.declared.parts.Unit.{Unit}
 
 -- a unit by what it is: its pins and its modes
 pub record Device : Type 0 where
   pub pins : List Pin
   pub modes : List Mode
-
-abbrev pub device : Unit → Device
-device u = record { pins = vec_items u.pins; modes = vec_items u.modes }
-
-abbrev pub devices : List Unit → List Device
-devices units = map device units
 
 abbrev pub no_device : Device
 no_device = record { pins = []; modes = [] }

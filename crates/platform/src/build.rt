@@ -1,68 +1,45 @@
 // Builds the units that the rows of the sheets describe.
-ghost use Rattle.std.specs.Prelude.{◌≡◌, ◌+◌, map, IfOk};
+ghost use Rattle.std.specs.Prelude.{◌≡◌, ◌<◌, map, IfOk};
 ghost use Rattle.std.specs.List.{range_with_len};
 ghost use Rattle.sheets.specs.Turns.{unit_count, pins_of};
 ghost use Rattle.sheets.specs.Sets.{rows_of};
-ghost use Rattle.platform.specs.Units.{device, devices, bounds_at};
-ghost use Rattle.platform.specs.Describing.{pin_from, bounds_from, modes_of, bounds_of, four, mode_from, unit_from, rail_count};
+ghost use Rattle.platform.specs.Units.{bounds_at};
+ghost use Rattle.platform.specs.Devices.{device, devices};
+ghost use Rattle.platform.specs.Describing.{pin_from, modes_of, bounds_of, four, mode_from, unit_from, rail_count};
 
-use crate::parts::{Bounds, Mode, Pin, Unit};
+use crate::parts::{Bounds, Mode, Pin};
+use crate::unit::Unit;
 use sheets::{BoundRow, ModeRow, PinRow, Sheets, units_of};
 use std::alloc::{AllocError, Global};
 
-fn pin_from(row: PinRow) -> Pin
-    ensures { result ≡ pin_from row }
-{
-    Pin {
-        rail: row.rail,
-        way: row.way,
-    }
-}
-
-fn bounds_from(row: BoundRow) -> Bounds
-    ensures { result ≡ bounds_from row }
-{
-    Bounds {
-        low: row.low,
-        high: row.high,
-    }
-}
+// What a pin has where its unit lacks it.
+const NONE: Bounds = Bounds { low: 0, high: 0 };
 
 // The pins of a unit.
 fn pins_of(heap: Global, rows: &[PinRow], unit: usize) -> Result<Vec<Pin>, AllocError>
     ensures { IfOk result (λ v. v.items ≡ map pin_from (pins_of unit rows.now)) }
 {
-    let mut out = Vec::new(heap);
-    for row in rows {
-        if row.unit as usize == unit {
-            out.push(pin_from(*row))?;
-        }
-    }
-    Ok(out)
+    rows.iter()
+        .filter(|row| row.unit as usize == unit)
+        .map(|row| Pin::from(*row))
+        .collect(heap)
 }
 
 // The bounds of a mode, one for each pin of its unit.
 fn bounds_of(heap: Global, rows: &[BoundRow], unit: u8, mode: u8) -> Result<Vec<Bounds>, AllocError>
     ensures { IfOk result (λ v. v.items ≡ bounds_of unit mode rows.now) }
 {
-    let mut out = Vec::new(heap);
-    for row in rows {
-        if (row.unit == unit) & (row.mode == mode) {
-            out.push(bounds_from(*row))?;
-        }
-    }
-    Ok(out)
+    rows.iter()
+        .filter(|row| (row.unit == unit) & (row.mode == mode))
+        .map(|row| Bounds::from(*row))
+        .collect(heap)
 }
 
 // The bounds at a pin, or none.
 fn at(bounds: &[Bounds], pin: usize) -> Bounds
     ensures { result ≡ bounds_at bounds.now pin }
 {
-    if pin < bounds.len() {
-        bounds[pin]
-    } else {
-        Bounds { low: 0, high: 0 }
-    }
+    bounds.get(pin).copied().unwrap_or(NONE)
 }
 
 fn four(bounds: &[Bounds]) -> [Bounds; 4]
@@ -102,6 +79,7 @@ fn modes_of(
 }
 
 fn unit_from(heap: Global, sheets: &Sheets, unit: usize) -> Result<Unit, AllocError>
+    requires { unit < unit_count (rows_of sheets.now).pins }
     ensures { IfOk result (λ u. device u ≡ unit_from (rows_of sheets.now) unit) }
 {
     let pins = pins_of(heap, &sheets.pins, unit)?;
@@ -120,19 +98,13 @@ pub(crate) fn units_from(heap: Global, sheets: &Sheets) -> Result<Vec<Unit>, All
     Ok(out)
 }
 
-fn one_past(row: PinRow) -> usize
-    ensures { result ≡ row.rail + 1 }
-{
-    row.rail as usize + 1
-}
-
 // One more than the highest rail.
 pub(crate) fn rails_of(rows: &[PinRow]) -> usize
     ensures { result ≡ rail_count rows.now }
 {
     let mut rails = 0;
     for row in rows {
-        rails = one_past(*row).max(rails);
+        rails = (row.rail as usize + 1).max(rails);
     }
     rails
 }

@@ -1,10 +1,11 @@
 // The two rules that the sheets alone do not keep: pins of a unit apart, and one driver for each rail.
 ghost use Rattle.std.specs.Prelude.{◌≡◌, ℕ, ◌<◌, ◌≤◌, length, Decides, MatchOption};
-ghost use Rattle.platform.specs.Units.{device, devices};
-ghost use Rattle.platform.specs.Rules.{drives, drivers_among, drivers, AloneTo, Apart, Each, PinsCounted, Driven};
+ghost use Rattle.platform.specs.Devices.{device, devices};
+ghost use Rattle.platform.specs.Rules.{drives, drivers_among, drivers, AloneTo, Apart, Each, Driven};
 ghost use Rattle.platform.specs.Making.{LowestTwice, LowestUndriven};
 
-use crate::parts::{Pin, Unit};
+use crate::parts::Pin;
+use crate::unit::Unit;
 use sheets::Way;
 
 // Is no later pin on the rail of this one?
@@ -13,8 +14,8 @@ fn alone(unit: &Unit, at: usize) -> bool
     ensures { Decides result (AloneTo (length (device unit.now).pins) (device unit.now) at) }
 {
     let rail = unit.pins[at].rail;
-    for later in at + 1..unit.pins.len() {
-        if unit.pins[later].rail == rail {
+    for later in &unit.pins[at + 1..] {
+        if later.rail == rail {
             return false;
         }
     }
@@ -36,40 +37,30 @@ fn apart(unit: &Unit) -> bool
 pub(crate) fn lowest_twice(units: &[Unit]) -> Option<usize>
     ensures { MatchOption result (Each Apart (devices units.now)) (λ u. LowestTwice (devices units.now) u) }
 {
-    for unit in 0..units.len() {
-        if !apart(&units[unit]) {
+    for (unit, device) in units.iter().enumerate() {
+        if !apart(device) {
             return Some(unit);
         }
     }
     None
 }
 
-// 1 for a pin that drives the rail, 0 for any other.
-fn drives(pin: Pin, rail: usize) -> usize
-    ensures value { result ≡ drives rail pin.way pin.rail }
-    ensures bound { result ≤ 1 }
+fn drives(pin: Pin, rail: usize) -> bool
+    ensures { result ≡ drives rail pin }
 {
-    match pin.way {
-        Way::Drives => { if pin.rail as usize == rail { 1 } else { 0 } }
-        Way::Loads => 0,
-    }
+    matches!(pin.way, Way::Drives) && pin.rail as usize == rail
 }
 
+// How many of the pins drive the rail.
 fn drivers_among(pins: &[Pin], rail: usize) -> usize
-    ensures value { result ≡ drivers_among rail pins.now }
-    ensures bound { result ≤ length pins.now }
+    ensures { result ≡ drivers_among rail pins.now }
 {
-    let mut count = 0;
-    for pin in pins {
-        count += drives(*pin, rail);
-    }
-    count
+    pins.iter().filter(|pin| drives(**pin, rail)).count()
 }
 
 // How many pins drive the rail.
 fn drivers(units: &[Unit], rail: usize) -> usize
-    requires units { length units.now ≤ 24 }
-    requires pins { Each PinsCounted (devices units.now) }
+    requires { length units.now ≤ 24 }
     ensures { result ≡ drivers rail (devices units.now) }
 {
     let mut count = 0;
@@ -81,8 +72,7 @@ fn drivers(units: &[Unit], rail: usize) -> usize
 
 // The lowest rail without exactly one driving pin.
 pub(crate) fn lowest_undriven(units: &[Unit], rails: usize) -> Option<usize>
-    requires units { length units.now ≤ 24 }
-    requires pins { Each PinsCounted (devices units.now) }
+    requires { length units.now ≤ 24 }
     ensures { MatchOption result (Driven rails (devices units.now)) (λ rail. LowestUndriven rails (devices units.now) rail) }
 {
     for rail in 0..rails {

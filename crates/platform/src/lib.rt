@@ -9,7 +9,9 @@ pub mod parts;
 pub mod platform;
 pub mod read;
 pub mod rest;
+pub mod unit;
 
 pub use inquiry::{Inquiry, read_inquiry};
-pub use parts::{Bounds, Mix, Mode, Pin, Unit};
+pub use parts::{Bounds, Mix, Mode, Pin};
 pub use platform::Platform;
+pub use unit::Unit;

@@ -1,21 +1,64 @@
-// The parts of a platform: pins, modes and units; and a mix, which has a value for each rail.
-use sheets::{Kind, Way};
+// The parts of a platform: pins, modes and their bounds; and a mix, which has a value for each rail.
+ghost use Rattle.std.specs.Prelude.{◌≡◌, ◌≤◌, Decides};
+ghost use Rattle.platform.specs.Units.{Within};
+ghost use Rattle.platform.specs.Describing.{pin_from, bounds_from};
+
+use sheets::{BoundRow, Kind, PinRow, Way};
 
 // A low and a high in millivolts, both included.
-#[derive(Clone, Copy)]
+#[derive(Clone, Copy, Debug, PartialEq, Eq)]
 pub struct Bounds {
     pub low: u16,
     pub high: u16,
 }
 
-#[derive(Clone, Copy)]
+impl Bounds {
+    // Does the value lie within?
+    pub fn holds(self, value: u16) -> bool
+        ensures { Decides result (Within self value) }
+    {
+        self.low <= value && value <= self.high
+    }
+
+    // Does any value lie within?
+    pub fn is_open(self) -> bool
+        ensures { Decides result (self.low ≤ self.high) }
+    {
+        self.low <= self.high
+    }
+}
+
+impl From<BoundRow> for Bounds {
+    ghost from_gives = { λ row bounds. bounds ≡ bounds_from row };
+
+    fn from(row: BoundRow) -> Bounds {
+        Bounds {
+            low: row.low,
+            high: row.high,
+        }
+    }
+}
+
+#[derive(Clone, Copy, Debug, PartialEq, Eq)]
 pub struct Pin {
     pub rail: u8,
     pub way: Way,
 }
 
+impl From<PinRow> for Pin {
+    ghost from_gives = { λ row pin. pin ≡ pin_from row };
+
+    fn from(row: PinRow) -> Pin {
+        Pin {
+            rail: row.rail,
+            way: row.way,
+        }
+    }
+}
+
 // The draw is in milliwatts. Of the bounds only those of the unit's own pins are read.
-#[derive(Clone, Copy)]
+// Four pins are all that a unit may have, so a mode is plain data with an array for them.
+#[derive(Clone, Copy, Debug, PartialEq, Eq)]
 pub struct Mode {
     pub kind: Kind,
     pub draw: u32,
@@ -23,15 +66,8 @@ pub struct Mode {
     pub bounds: [Bounds; 4],
 }
 
-// A supply, a regulator or a load.
-#[derive(Drop)]
-pub struct Unit {
-    pub pins: Vec<Pin>,
-    pub modes: Vec<Mode>,
-}
-
 // A value in millivolts for each rail; those past the last rail are not read.
-#[derive(Clone, Copy)]
+#[derive(Clone, Copy, Debug, PartialEq, Eq)]
 pub struct Mix {
     pub values: [u16; 24],
 }

@@ -1,9 +1,9 @@
 // A platform, whose type says that it keeps every rule.
 ghost use Rattle.std.specs.Prelude.{◌≤◌, length};
-ghost use Rattle.platform.specs.Units.{devices};
+ghost use Rattle.platform.specs.Devices.{devices};
 ghost use Rattle.platform.specs.Rules.{Each, PinsCounted, ModesCounted, Wired, Apart, Mild, Cool, Level, Driven};
 
-use crate::parts::Unit;
+use crate::unit::Unit;
 
 #[derive(Drop)]
 pub struct Platform {

@@ -1,10 +1,10 @@
 // What a platform has.
 ghost use Rattle.std.specs.Prelude.{◌≡◌};
-ghost use Rattle.platform.specs.Units.{devices};
+ghost use Rattle.platform.specs.Devices.{devices};
 ghost use Rattle.platform.specs.Rules.{Sound};
 
-use crate::parts::Unit;
 use crate::platform::Platform;
+use crate::unit::Unit;
 
 impl Platform {
     pub fn rails(&self) -> u8

@@ -2,8 +2,9 @@
 use Rattle.std.proofs.Common.{◌≡◌, ℕ, ◌<◌, List, length, get_or, sym, ap, ◌∙◌}
 use lib.ListN.{length-map}
 use Rattle.std.proofs.lemmas.List.{get_or-map}
-use Rattle.platform.specs.declared.parts.Unit.{Unit}
-use Rattle.platform.specs.Units.{device, devices, no_device, unit_at}
+use Rattle.platform.specs.declared.unit.Unit.{Unit}
+use Rattle.platform.specs.Units.{no_device, unit_at}
+use Rattle.platform.specs.Devices.{device, devices}
 
 pub unit_read : (us : List Unit) (k : ℕ) (u : Unit) → k < length us → unit_at (devices us) k ≡ device (get_or us k u)
 unit_read us k u lt = get_or-map device us k u no_device lt

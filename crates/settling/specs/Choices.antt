@@ -2,7 +2,8 @@
 use Rattle.std.specs.Prelude.{◌≡◌, ℕ, ◌<◌, ◌≤◌, List, length, vec_items, slice_index, slice_index_or}
 use Rattle.sheets.specs.declared.rows.Demand.{Demand}
 use Rattle.platform.specs.declared.platform.Platform.{Platform}
-use Rattle.platform.specs.Units.{Device, devices, unit_at, rail_at, pin_bounds, value_of, Within, Rests, Resting}
+use Rattle.platform.specs.Units.{Device, unit_at, rail_at, pin_bounds, value_of, Within, Rests, Resting}
+use Rattle.platform.specs.Devices.{devices}
 use Rattle.platform.specs.Rules.{Sound}
 
 -- the units of a platform

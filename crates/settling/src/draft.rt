@@ -1,6 +1,7 @@
 // A choice for the first units, with its windows and its cost.
 ghost use Rattle.std.specs.Prelude.{◌<◌, length};
-ghost use Rattle.platform.specs.Units.{device, mode_at};
+ghost use Rattle.platform.specs.Units.{mode_at};
+ghost use Rattle.platform.specs.Devices.{device};
 ghost use Rattle.platform.specs.Rules.{PinsCounted, ModesCounted, Wired};
 ghost use Rattle.settling.specs.Tolls.{Room};
 ghost use Rattle.settling.specs.Searching.{Extends};

@@ -1,6 +1,7 @@
 // The search through the choices in their order, unit by unit and mode by mode.
 ghost use Rattle.std.specs.Prelude.{◌+◌, ◌<◌, ◌≤◌, length, Decides, slice_set};
-ghost use Rattle.platform.specs.Units.{devices, unit_at};
+ghost use Rattle.platform.specs.Units.{unit_at};
+ghost use Rattle.platform.specs.Devices.{devices};
 ghost use Rattle.settling.specs.Choices.{OfPlatform};
 ghost use Rattle.settling.specs.Searching.{Reached, Stands, Found, Earlier, Searched};
 

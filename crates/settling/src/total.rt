@@ -1,6 +1,7 @@
 // What any modes cost, rest or pass.
 ghost use Rattle.std.specs.Prelude.{◌≡◌};
-ghost use Rattle.platform.specs.Units.{device, mode_at};
+ghost use Rattle.platform.specs.Units.{mode_at};
+ghost use Rattle.platform.specs.Devices.{device};
 ghost use Rattle.settling.specs.Choices.{units_of};
 ghost use Rattle.settling.specs.Tolls.{cost};
 

@@ -1,6 +1,7 @@
 // What a unit has at a number: a mode, and a pin's rail and bounds.
 ghost use Rattle.std.specs.Prelude.{◌≡◌, ◌<◌, length};
-ghost use Rattle.platform.specs.Units.{device, bounds_at, mode_at, rail_at};
+ghost use Rattle.platform.specs.Units.{bounds_at, mode_at, rail_at};
+ghost use Rattle.platform.specs.Devices.{device};
 
 use platform::{Bounds, Mode, Unit};
 

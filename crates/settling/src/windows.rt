@@ -1,6 +1,6 @@
 // Windows: what the demands leave each rail, and what a unit in a mode leaves of that.
 ghost use Rattle.std.specs.Prelude.{◌≡◌, ◌<◌, length, Decides};
-ghost use Rattle.platform.specs.Units.{device};
+ghost use Rattle.platform.specs.Devices.{device};
 ghost use Rattle.platform.specs.Rules.{PinsCounted, Wired};
 ghost use Rattle.settling.specs.Choices.{Known, Demanded};
 ghost use Rattle.settling.specs.Narrowing.{shared, Hold, Open, Still};

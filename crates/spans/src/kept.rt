@@ -1,6 +1,6 @@
 // The modes that a pin keeps.
 ghost use Rattle.std.specs.Prelude.{ℕ, ◌<◌, ◌≤◌, length, Decides};
-ghost use Rattle.platform.specs.Units.{device};
+ghost use Rattle.platform.specs.Devices.{device};
 ghost use Rattle.platform.specs.Rules.{ModesCounted};
 ghost use Rattle.spans.specs.Searching.{Marked, Keeps, Under};
 

@@ -1,6 +1,7 @@
 // What a pin has: the span of its rail, and its bounds in a mode.
 ghost use Rattle.std.specs.Prelude.{◌≡◌, ◌<◌, length};
-ghost use Rattle.platform.specs.Units.{device, rail_at, pin_bounds};
+ghost use Rattle.platform.specs.Units.{rail_at, pin_bounds};
+ghost use Rattle.platform.specs.Devices.{device};
 ghost use Rattle.platform.specs.Rules.{Wired};
 ghost use Rattle.spans.specs.Searching.{pin_span};
 

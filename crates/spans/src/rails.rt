@@ -1,6 +1,6 @@
 // Whether spans are safe for the units on one rail.
 ghost use Rattle.std.specs.Prelude.{◌<◌, length, Decides, MatchOption};
-ghost use Rattle.platform.specs.Units.{device};
+ghost use Rattle.platform.specs.Devices.{device};
 ghost use Rattle.platform.specs.Making.{model_of};
 ghost use Rattle.spans.specs.Judging.{Touches, OnRail, AllSafeOn, LowestBadOn};
 

@@ -1,6 +1,6 @@
 // The search for the first values that no mode holds, in two functions that call each other.
 ghost use Rattle.std.specs.Prelude.{◌+◌, ◌<◌, ◌≤◌, length, replicate, MatchOption};
-ghost use Rattle.platform.specs.Units.{device};
+ghost use Rattle.platform.specs.Devices.{device};
 ghost use Rattle.platform.specs.Rules.{PinsCounted, ModesCounted, Wired};
 ghost use Rattle.spans.specs.Searching.{values_of, Inside, AllHeld, FirstUnheld, Blank, Alive};
 

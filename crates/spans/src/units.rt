@@ -1,6 +1,7 @@
 // What is asked of a platform's units.
 ghost use Rattle.std.specs.Prelude.{◌≡◌, ◌<◌, length, Decides, MatchOption};
-ghost use Rattle.platform.specs.Units.{device, unit_at};
+ghost use Rattle.platform.specs.Units.{unit_at};
+ghost use Rattle.platform.specs.Devices.{device};
 ghost use Rattle.platform.specs.Rules.{PinsCounted, ModesCounted, Wired, Apart};
 ghost use Rattle.platform.specs.Making.{model_of};
 ghost use Rattle.spans.specs.Judging.{SafeAt, BadAt};

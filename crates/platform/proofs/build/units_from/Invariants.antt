@@ -1,7 +1,7 @@
 use Rattle.std.proofs.Common.{◌≡◌, map, vec_items}
 use Rattle.std.specs.List.{range_with_len}
 use Rattle.sheets.specs.Sets.{rows_of}
-use Rattle.platform.specs.Units.{devices}
+use Rattle.platform.specs.Devices.{devices}
 use Rattle.platform.specs.Describing.{unit_from}
 use Rattle.platform.proofs.build.units_from.Given as goal
 

@@ -1,5 +1,5 @@
 use Rattle.std.proofs.Common.{ℕ, ◌<◌, length}
-use Rattle.platform.specs.Units.{device}
+use Rattle.platform.specs.Devices.{device}
 use Rattle.platform.specs.Rules.{AloneTo}
 use Rattle.platform.proofs.check.apart.Given as goal
 

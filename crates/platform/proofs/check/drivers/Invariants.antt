@@ -1,5 +1,5 @@
 use Rattle.std.proofs.Common.{◌≡◌, ◌*◌, ◌≤◌, take}
-use Rattle.platform.specs.Units.{devices}
+use Rattle.platform.specs.Devices.{devices}
 use Rattle.platform.specs.Rules.{drivers}
 use Rattle.platform.proofs.check.drivers.Given as goal
 

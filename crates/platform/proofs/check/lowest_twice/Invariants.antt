@@ -1,5 +1,6 @@
 use Rattle.std.proofs.Common.{ℕ, ◌<◌}
-use Rattle.platform.specs.Units.{devices, unit_at}
+use Rattle.platform.specs.Units.{unit_at}
+use Rattle.platform.specs.Devices.{devices}
 use Rattle.platform.specs.Rules.{Apart}
 use Rattle.platform.proofs.check.lowest_twice.Given as goal
 

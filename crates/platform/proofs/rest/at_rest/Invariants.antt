@@ -1,5 +1,6 @@
 use Rattle.std.proofs.Common.{ℕ, ◌<◌}
-use Rattle.platform.specs.Units.{device, Rests, InMode}
+use Rattle.platform.specs.Units.{Rests, InMode}
+use Rattle.platform.specs.Devices.{device}
 use Rattle.platform.proofs.rest.at_rest.Given as goal
 
 abbrev pub invariant-loop-mode : goal.invariant-loop-mode

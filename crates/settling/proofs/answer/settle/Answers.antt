@@ -1,6 +1,6 @@
 use Rattle.std.proofs.Common.{◌≡◌, List, length, replicate, subst, arith, rules}
-use Rattle.platform.specs.declared.parts.Unit.{Unit}
-use Rattle.platform.specs.Units.{devices}
+use Rattle.platform.specs.declared.unit.Unit.{Unit}
+use Rattle.platform.specs.Devices.{devices}
 use Rattle.settling.specs.Choices.{Known, Hopeless}
 use Rattle.settling.proofs.Endings.{stands_first, settled_none, settled_some}
 use Rattle.settling.proofs.answer.settle.Goals as goal

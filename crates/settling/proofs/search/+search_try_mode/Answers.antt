@@ -1,7 +1,8 @@
 use Rattle.std.proofs.Common.{◌≡◌, ℕ, ◌+◌, ◌<◌, ◌≤◌, List, length, sym, ◌∙◌, subst, arith, rules}
 use Rattle.std.proofs.lemmas.Bool.Decides.{not_from_Decides}
 use Rattle.sheets.specs.declared.rows.Kind.{Kind}
-use Rattle.platform.specs.Units.{device, devices, unit_at, mode_at}
+use Rattle.platform.specs.Units.{unit_at, mode_at}
+use Rattle.platform.specs.Devices.{device, devices}
 use Rattle.platform.specs.Rules.{Wired}
 use Rattle.settling.specs.Searching.{Earlier, Extends}
 use Rattle.settling.proofs.Devices.{unit_read, unit_is, as_many}

@@ -1,5 +1,5 @@
 use Rattle.std.proofs.Common.{◌+◌, ◌-◌, ◌*◌, length}
-use Rattle.platform.specs.Units.{devices}
+use Rattle.platform.specs.Devices.{devices}
 use Rattle.settling.specs.Searching.{Tried}
 use Rattle.settling.proofs.search.+search_try_mode.Given as goal
 

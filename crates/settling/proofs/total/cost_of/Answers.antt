@@ -1,5 +1,6 @@
 use Rattle.std.proofs.Common.{◌≡◌, length, sym, ◌∙◌, arith}
-use Rattle.platform.specs.Units.{devices, unit_at, mode_at}
+use Rattle.platform.specs.Units.{unit_at, mode_at}
+use Rattle.platform.specs.Devices.{devices}
 use Rattle.settling.specs.Choices.{mode_of}
 use Rattle.settling.specs.Tolls.{cost, cost_to}
 use Rattle.settling.proofs.Costs.{cost_next, cost_room}

@@ -1,5 +1,5 @@
 use Rattle.std.proofs.Common.{◌≡◌}
-use Rattle.platform.specs.Units.{devices}
+use Rattle.platform.specs.Devices.{devices}
 use Rattle.settling.specs.Tolls.{cost_to}
 use Rattle.settling.proofs.total.cost_of.Given as goal
 

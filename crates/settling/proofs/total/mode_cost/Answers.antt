@@ -1,5 +1,5 @@
 use Rattle.std.proofs.Common.{sym, ◌∙◌, rules}
-use Rattle.platform.specs.Units.{device}
+use Rattle.platform.specs.Devices.{device}
 use Rattle.settling.proofs.Costs.{absent_mode}
 use Rattle.settling.proofs.total.mode_cost.Goals as goal
 

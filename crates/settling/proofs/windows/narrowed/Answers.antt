@@ -1,6 +1,7 @@
 use Rattle.std.proofs.Common.{◌≡◌, ◌+◌, ◌<◌, List, length, set, subst, arith, rules}
 use Rattle.platform.specs.declared.parts.Bounds.{Bounds}
-use Rattle.platform.specs.Units.{device, bounds_at, rail_at, pin_bounds}
+use Rattle.platform.specs.Units.{bounds_at, rail_at, pin_bounds}
+use Rattle.platform.specs.Devices.{device}
 use Rattle.settling.specs.Narrowing.{shared, Hold, StillTo}
 use Rattle.settling.proofs.Holds.{pin_more}
 use Rattle.settling.proofs.windows.narrowed.Goals as goal

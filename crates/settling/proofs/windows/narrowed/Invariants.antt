@@ -1,5 +1,5 @@
 use Rattle.std.proofs.Common.{◌≡◌, length}
-use Rattle.platform.specs.Units.{device}
+use Rattle.platform.specs.Devices.{device}
 use Rattle.settling.specs.Narrowing.{Hold, StillTo}
 use Rattle.settling.proofs.windows.narrowed.Given as goal
 

@@ -1,5 +1,5 @@
 use Rattle.std.proofs.Common.{arith, rules}
-use Rattle.platform.specs.Units.{device}
+use Rattle.platform.specs.Devices.{device}
 use Rattle.spans.proofs.Steps.{keeps_more}
 use Rattle.spans.proofs.kept.keep.Goals as goal
 

@@ -1,5 +1,5 @@
 use Rattle.std.proofs.Common.{◌≡◌, length}
-use Rattle.platform.specs.Units.{device}
+use Rattle.platform.specs.Devices.{device}
 use Rattle.spans.specs.Searching.{Keeps}
 use Rattle.spans.proofs.kept.keep.Given as goal
 

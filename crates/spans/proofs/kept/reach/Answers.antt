@@ -1,6 +1,7 @@
 use Rattle.std.proofs.Common.{ℕ, ◌≤◌, ap, arith, below_more}
 use Rattle.std.proofs.lemmas.Bool.{both_ways}
-use Rattle.platform.specs.Units.{device, pin_bounds}
+use Rattle.platform.specs.Units.{pin_bounds}
+use Rattle.platform.specs.Devices.{device}
 use Rattle.spans.specs.Searching.{Marked}
 use Rattle.spans.proofs.kept.reach.Goals as goal
 use Rattle.spans.proofs.kept.reach.Goals.{then-kept-mode, else-kept-mode}

@@ -1,5 +1,5 @@
 use Rattle.std.proofs.Common.{ℕ, ◌≤◌}
-use Rattle.platform.specs.Units.{device}
+use Rattle.platform.specs.Devices.{device}
 use Rattle.spans.specs.Searching.{Under}
 use Rattle.spans.proofs.kept.reach.Given as goal
 

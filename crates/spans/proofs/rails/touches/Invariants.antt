@@ -1,5 +1,6 @@
 use Rattle.std.proofs.Common.{◌≡◌, ℕ, ◌<◌}
-use Rattle.platform.specs.Units.{device, rail_at}
+use Rattle.platform.specs.Units.{rail_at}
+use Rattle.platform.specs.Devices.{device}
 use Rattle.spans.proofs.rails.touches.Given as goal
 
 abbrev pub invariant-loop-pin : goal.invariant-loop-pin

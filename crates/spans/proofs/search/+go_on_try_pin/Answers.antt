@@ -1,6 +1,7 @@
 use Rattle.std.proofs.Common.{ℕ, ◌+◌, ◌≤◌, ap, subst, arith}
 use Rattle.platform.specs.declared.parts.Bounds.{Bounds}
-use Rattle.platform.specs.Units.{device, Within}
+use Rattle.platform.specs.Units.{Within}
+use Rattle.platform.specs.Devices.{device}
 use Rattle.spans.specs.Searching.{values_of}
 use Rattle.spans.proofs.Steps.{Lower, tried_bad, tried_lower}
 use Rattle.spans.proofs.search.+go_on_try_pin.Goals as goal

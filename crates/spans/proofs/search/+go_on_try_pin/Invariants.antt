@@ -1,5 +1,5 @@
 use Rattle.std.proofs.Common.{◌+◌, ◌-◌, ◌*◌, ◌≤◌, length}
-use Rattle.platform.specs.Units.{device}
+use Rattle.platform.specs.Devices.{device}
 use Rattle.spans.specs.Searching.{values_of}
 use Rattle.spans.proofs.Steps.{Lower}
 use Rattle.spans.proofs.search.+go_on_try_pin.Given as goal

@@ -1,5 +1,6 @@
 use Rattle.std.proofs.Common.{replicate, subst, MatchOption}
-use Rattle.platform.specs.Units.{Device, device}
+use Rattle.platform.specs.Units.{Device}
+use Rattle.platform.specs.Devices.{device}
 use Rattle.spans.specs.Safety.{SafeFor, BadValues}
 use Rattle.spans.specs.Searching.{values_of}
 use Rattle.spans.proofs.Mixes.{judged}

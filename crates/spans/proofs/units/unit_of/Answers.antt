@@ -1,5 +1,6 @@
 use Rattle.std.proofs.Common.{◌<◌, length, vec_items, sym, ap, ◌∙◌, subst, arith}
-use Rattle.platform.specs.Units.{devices, unit_at}
+use Rattle.platform.specs.Units.{unit_at}
+use Rattle.platform.specs.Devices.{devices}
 use Rattle.platform.specs.Rules.{PinsCounted, ModesCounted, Wired, Apart}
 use Rattle.platform.proofs.Checking.{unit_is, as_many}
 use Rattle.spans.proofs.units.unit_of.Goals as goal

@@ -3,5 +3,5 @@ use Rattle.platform.specs.Units.{unit_at, AtRest}
 use Rattle.platform.specs.Making.{model_of}
 use Rattle.platform.proofs.platform.Platform.lowest_unrested.Given as goal
 
-abbrev pub invariant-loop-unit : goal.invariant-loop-unit
-invariant-loop-unit l = (k : ℕ) → k < l.unit → AtRest (unit_at (model_of l.self).units k) l.mix.values
+abbrev pub invariant-loop-number : goal.invariant-loop-number
+invariant-loop-number l = (k : ℕ) → k < l.number → AtRest (unit_at (model_of l.self).units k) l.mix.values

@@ -1,6 +1,6 @@
 use Rattle.std.proofs.Common.{◌≡◌, ◌≤◌, vec_items, ap, ◌∙◌, subst, arith, rules}
 use Rattle.sheets.specs.Sets.{rows_of}
-use Rattle.platform.specs.Units.{devices}
+use Rattle.platform.specs.Devices.{devices}
 use Rattle.platform.specs.Rules.{Each, Apart, Driven}
 use Rattle.platform.specs.Describing.{rail_count}
 use Rattle.platform.specs.Making.{LowestTwice, LowestUndriven}
@@ -18,7 +18,7 @@ returns-in-Some c _ =
 pub lowest_undriven-requires : goal.lowest_undriven-requires
 lowest_undriven-requires c =
     let f = few (rows_of c.args.sheets.now) (devices c.deref-3.result.now) (ap devices c.deref-3.ensures.value ∙ c.in_ok-units.ensures) c.args.sheets.now.kept in
-    record { units = omega (arith, f.0, as_many c.deref-3.result.now); pins = f.1 }
+    omega (arith, f.0, as_many c.deref-3.result.now)
 
 rails_are : (c : In_default-lowest_undriven) → c.rails_of-rails.result ≡ rail_count (rows_of c.args.sheets.now).pins
 rails_are c = c.rails_of-rails.ensures ∙ ap rail_count c.deref-2.ensures.value
