@@ -25,12 +25,7 @@ fn alone(unit: &Unit, at: usize) -> bool
 fn apart(unit: &Unit) -> bool
     ensures { Decides result (Apart (device unit.now)) }
 {
-    for pin in 0..unit.pins.len() {
-        if !alone(unit, pin) {
-            return false;
-        }
-    }
-    true
+    (0..unit.pins.len()).all(|pin| alone(unit, pin))
 }
 
 // The lowest unit with two pins on one rail.
