@@ -32,12 +32,7 @@ fn apart(unit: &Unit) -> bool
 pub(crate) fn lowest_twice(units: &[Unit]) -> Option<usize>
     ensures { MatchOption result (Each Apart (devices units.now)) (λ u. LowestTwice (devices units.now) u) }
 {
-    for (unit, device) in units.iter().enumerate() {
-        if !apart(device) {
-            return Some(unit);
-        }
-    }
-    None
+    units.iter().position(|unit| !apart(unit))
 }
 
 fn drives(pin: Pin, rail: usize) -> bool
@@ -70,10 +65,5 @@ pub(crate) fn lowest_undriven(units: &[Unit], rails: usize) -> Option<usize>
     requires { length units.now ≤ 24 }
     ensures { MatchOption result (Driven rails (devices units.now)) (λ rail. LowestUndriven rails (devices units.now) rail) }
 {
-    for rail in 0..rails {
-        if drivers(units, rail) != 1 {
-            return Some(rail);
-        }
-    }
-    None
+    (0..rails).find(|rail| drivers(units, *rail) != 1)
 }

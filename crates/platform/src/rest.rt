@@ -5,7 +5,7 @@ ghost use Rattle.platform.specs.Devices.{device};
 ghost use Rattle.platform.specs.Making.{model_of};
 ghost use Rattle.platform.specs.Resting.{LowestUnrested};
 
-use crate::parts::Mix;
+use crate::parts::{Mix, Mode};
 use crate::platform::Platform;
 use crate::unit::Unit;
 use sheets::Kind;
@@ -15,25 +15,19 @@ fn in_mode(unit: &Unit, mode: usize, mix: Mix) -> bool
     requires { mode < length (device unit.now).modes }
     ensures { Decides result (InMode (device unit.now) mode mix.values) }
 {
-    for (pin, bounds) in unit.pins.iter().zip(&unit.modes[mode].bounds) {
-        let value = mix.values[pin.rail as usize];
-        if value < bounds.low || value > bounds.high {
-            return false;
-        }
-    }
-    true
+    let Mode { bounds, .. } = unit.modes[mode];
+    unit.pins
+        .iter()
+        .zip(&bounds)
+        .all(|(pin, at)| at.holds(mix.values[pin.rail as usize]))
 }
 
 // Is the unit in one of its rest modes?
 fn at_rest(unit: &Unit, mix: Mix) -> bool
     ensures { Decides result (AtRest (device unit.now) mix.values) }
 {
-    for (mode, chosen) in unit.modes.iter().enumerate() {
-        if matches!(chosen.kind, Kind::Rest) && in_mode(unit, mode, mix) {
-            return true;
-        }
-    }
-    false
+    unit.modes.iter().enumerate().any(|(mode, chosen)| matches!(chosen.kind, Kind::Rest)
+        && in_mode(unit, mode, mix))
 }
 
 impl Platform {
@@ -41,12 +35,7 @@ impl Platform {
     pub fn lowest_unrested(&self, mix: Mix) -> Option<usize>
         ensures { MatchOption result (Resting (model_of self.now).units mix.values) (λ u. LowestUnrested (model_of self.now).units mix.values u) }
     {
-        for (number, unit) in self.units.iter().enumerate() {
-            if !at_rest(unit, mix) {
-                return Some(number);
-            }
-        }
-        None
+        self.units.iter().position(|unit| !at_rest(unit, mix))
     }
 
     // Does the mix rest?

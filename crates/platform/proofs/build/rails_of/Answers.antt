@@ -1,4 +1,4 @@
-use Rattle.std.proofs.Common.{max, ap, ◌∙◌, arith}
+use Rattle.std.proofs.Common.{ap, ◌∙◌, arith}
 use Rattle.std.proofs.lemmas.List.{take_all}
 use Rattle.platform.specs.Describing.{rail_count}
 use Rattle.platform.proofs.Building.{rails_more}

@@ -1,26 +1,13 @@
-use Rattle.std.proofs.Common.{ℕ, sym, subst, arith, below_more}
-use Rattle.platform.specs.Units.{unit_at}
-use Rattle.platform.specs.Devices.{devices}
+use Rattle.std.proofs.Common.{rules, tests}
+use Rattle.std.proofs.lemmas.Iterator.{YieldsList-from_slice, IsFirst-from_position}
+use Rattle.platform.specs.Devices.{device, devices}
 use Rattle.platform.specs.Rules.{Apart}
-use Rattle.platform.proofs.Checking.{unit_is, as_many}
+use Rattle.platform.specs.Making.{LowestTwice}
+use Rattle.platform.proofs.Checking.{first_without}
 use Rattle.platform.proofs.check.lowest_twice.Goals as goal
-use Rattle.sheet.proofs.Lines.{refuted, held}
-
-pub returns-then-not-apart : goal.returns-then-not-apart
-returns-then-not-apart c =
-    let us = c.args.units.now in
-    let is = unit_is us c.loop-unit.unit c.index-units-unit.result (omega arith) c.index-units-unit.is in
-    record {
-      there = omega (arith, as_many us);
-      twice = λ h. refuted c.if-not-apart.true c.apart.ensures (subst Apart is h);
-      lowest = c.loop-unit.invariant;
-    }
-
-pub loop-unit-preserved : goal.loop-unit-preserved
-loop-unit-preserved c =
-    let us = c.args.units.now in
-    let is = unit_is us c.loop-unit.unit c.index-units-unit.result (omega arith) c.index-units-unit.is in
-    below_more (λ (k : ℕ). Apart (unit_at (devices us) k)) c.loop-unit.unit c.loop-unit.invariant (subst Apart (sym is) (held c.if-not-apart.false c.apart.ensures))
 
 pub returns : goal.returns
-returns c = λ k lt. c.loop-unit.invariant k (omega (arith, as_many c.args.units.now))
+returns c =
+    first_without Apart (LowestTwice (devices c.args.units.now)) c.args.units.now c.position.result
+    (λ i lt no all. record { there = lt; twice = no; lowest = all })
+    (IsFirst-from_position _ _ c.position.result (λ u. Apart (device u) → ⊥) (λ u. Apart (device u)) c.position.ensures.ran (YieldsList-from_slice c.args.units.now cc) (λ x q k. search (rules, tests)) (λ x q k. search (rules, tests)))

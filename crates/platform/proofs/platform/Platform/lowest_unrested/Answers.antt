@@ -1,30 +1,15 @@
-use Rattle.std.proofs.Common.{ℕ, ◌<◌, ◌≤◌, length, get_or, vec_items, sym, ap, ◌∙◌, subst, arith, rules, below_more}
-use Rattle.sheet.proofs.Lines.{refuted, held}
-use Rattle.platform.specs.Units.{unit_at, AtRest}
-use Rattle.platform.specs.Devices.{devices}
-use Rattle.platform.proofs.Checking.{unit_is, as_many}
+use Rattle.std.proofs.Common.{vec_items, rules, tests}
+use Rattle.std.proofs.lemmas.Iterator.{YieldsList-from_slice, IsFirst-from_position}
+use Rattle.platform.specs.Units.{AtRest}
+use Rattle.platform.specs.Devices.{device, devices}
+use Rattle.platform.specs.Resting.{LowestUnrested}
+use Rattle.platform.proofs.Checking.{first_without}
 use Rattle.platform.proofs.platform.Platform.lowest_unrested.Goals as goal
-
-pub returns-then-not-at_rest : goal.returns-then-not-at_rest
-returns-then-not-at_rest c =
-    let us = vec_items c.args.self.now.units in
-    let lt : c.loop-number.number < length us = search rules in
-    let is = unit_is us c.loop-number.number c.unit-item.result lt (c.unit-item.is ∙ ap (λ l. get_or l c.loop-number.number c.unit-item.result) c.deref-unit-items.ensures.value) in
-    record {
-      there = omega (arith, as_many us);
-      unrested = λ h. refuted c.if-not-at_rest.true c.at_rest.ensures (subst (λ u. AtRest u c.args.mix.values) is h);
-      lowest = c.loop-number.invariant;
-    }
-
-pub loop-number-preserved : goal.loop-number-preserved
-loop-number-preserved c =
-    let us = vec_items c.args.self.now.units in
-    let lt : c.loop-number.number < length us = search rules in
-    let is = unit_is us c.loop-number.number c.unit-item.result lt (c.unit-item.is ∙ ap (λ l. get_or l c.loop-number.number c.unit-item.result) c.deref-unit-items.ensures.value) in
-    below_more (λ (k : ℕ). AtRest (unit_at (devices us) k) c.args.mix.values) c.loop-number.number c.loop-number.invariant (subst (λ u. AtRest u c.args.mix.values) (sym is) (held c.if-not-at_rest.false c.at_rest.ensures))
 
 pub returns : goal.returns
 returns c =
+    let mix = c.args.mix.values in
     let us = vec_items c.args.self.now.units in
-    let all : length us ≤ c.loop-number.number = search rules in
-    λ k lt. c.loop-number.invariant k (omega (arith, as_many us))
+    first_without (λ u. AtRest u mix) (LowestUnrested (devices us) mix) us c.position.result
+    (λ i lt no all. record { there = lt; unrested = no; lowest = all })
+    (IsFirst-from_position _ _ c.position.result (λ u. AtRest (device u) mix → ⊥) (λ u. AtRest (device u) mix) c.position.ensures.ran (YieldsList-from_slice us cc) (λ x q k. search (rules, tests)) (λ x q k. search (rules, tests)))
