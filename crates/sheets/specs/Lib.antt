@@ -2,4 +2,5 @@ pub mod Turns
 pub mod Kinds
 pub mod Reading
 pub mod Sets
+pub mod Fours
 pub mod Fields

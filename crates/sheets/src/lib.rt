@@ -3,6 +3,7 @@
 
 pub mod bounds;
 pub mod demands;
+pub mod four;
 pub mod modes;
 pub mod pins;
 pub mod read;
@@ -12,6 +13,7 @@ mod turn;
 
 pub use bounds::{BoundSheet, read_bounds};
 pub use demands::{DemandSheet, read_demands};
+pub use four::FourSheets;
 pub use modes::{ModeSheet, read_modes};
 pub use pins::{PinSheet, read_pins, units_of};
 pub use read::{read_sheets, sheets_read_back};
