@@ -1,7 +1,7 @@
 -- One line, as the reader takes it apart. Assumes nothing.
 use Rattle.std.proofs.Common.{◌≡◌, ℕ, zero, suc, ◌+◌, ◌<◌, ◌≤◌, Bool, true, false, not, List, [], ◌∷◌, ◌++◌, length, get_or, take, drop, Decides, sym, refl, ap, ◌∙◌, subst, inr, ⊎_elim, append_assoc, append-nil, arith, length-append}
 use Rattle.std.specs.List.{flat_map, AllByRecursion}
-use Rattle.std.proofs.lemmas.List.{take_all, take_more, nil_from_length, flat_map_more}
+use Rattle.std.proofs.lemmas.List.{take_all, nil_from_length, flat_map_more}
 use Rattle.std.proofs.str.Laws.{order}
 use Rattle.text.specs.Written.{Lacks, commas, Fields}
 use Rattle.text.proofs.Cuts.{around}
@@ -133,11 +133,6 @@ pub record Sofar {Row : Type 0} (s : Sheet Row) (bs : List ℕ) (rows : List Row
 -- one row more at the end
 pub render_more : {Row : Type 0} (s : Sheet Row) (rows : List Row) (r : Row) → render s rows ++ written s r ≡ render s (rows ++ r ∷ [])
 render_more s rows r = append_assoc s.names (10 ∷ flat_map (written s) rows) (written s r) ∙ ap (λ t. s.names ++ 10 ∷ t) (flat_map_more (written s) [] rows r)
-
--- a loop that writes rows, one turn on
-pub written_more : {Row : Type 0} (s : Sheet Row) (rows : List Row) (i : ℕ) (d : Row) (out : List ℕ) → i < length rows → out ≡ render s (take i rows) → out ++ written s (get_or rows i d) ≡ render s (take (i + 1) rows)
-written_more s rows i d out l e =
-    ap (λ t. t ++ written s (get_or rows i d)) e ∙ render_more s (take i rows) (get_or rows i d) ∙ ap (render s) (sym (take_more rows i d l))
 
 good_more : {Row : Type 0} (s : Sheet Row) (b rs : List Row) (r : Row) → GoodAfter s b rs → Fits s (b ++ rs) r → GoodAfter s b (rs ++ r ∷ [])
 good_more s b [] r h f = (subst (λ l. Fits s l r) (append-nil b) f, tt)

@@ -56,12 +56,7 @@ impl Layout for BoundSheet {
     }
 
     fn next(&self, rows: &[BoundRow], row: &BoundRow) -> bool {
-        let at = rows.len();
-        if at >= self.places.len() {
-            return false;
-        }
-        let due = self.places[at];
-        row.unit == due.unit && row.mode == due.mode && row.pin == due.pin
+        self.places.get(rows.len()) == Some(&row.place())
     }
 
     fn level(&self, row: &BoundRow) -> bool {

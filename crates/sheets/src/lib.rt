@@ -4,6 +4,7 @@
 pub mod bounds;
 pub mod demands;
 pub mod four;
+pub mod letter;
 pub mod modes;
 pub mod pins;
 pub mod read;
@@ -14,6 +15,7 @@ mod turn;
 pub use bounds::{BoundSheet, read_bounds};
 pub use demands::{DemandSheet, read_demands};
 pub use four::FourSheets;
+pub use letter::UnknownLetter;
 pub use modes::{ModeSheet, read_modes};
 pub use pins::{PinSheet, read_pins, units_of};
 pub use read::{read_sheets, sheets_read_back};

@@ -1,21 +1,23 @@
 // The rows of the four sheets, as plain records.
+ghost use Rattle.std.specs.Prelude.{◌≡◌};
+ghost use Rattle.sheets.specs.Turns.{place_of};
 
 // Whether a pin drives its rail or loads it.
-#[derive(Clone, Copy)]
+#[derive(Clone, Copy, Debug, PartialEq, Eq)]
 pub enum Way {
     Drives,
     Loads,
 }
 
 // A unit may stay in a rest mode; a pass mode is only passed through.
-#[derive(Clone, Copy)]
+#[derive(Clone, Copy, Debug, PartialEq, Eq)]
 pub enum Kind {
     Rest,
     Pass,
 }
 
 // A line of sheet 0.
-#[derive(Clone, Copy)]
+#[derive(Clone, Copy, Debug, PartialEq, Eq)]
 pub struct PinRow {
     pub unit: u8,
     pub pin: u8,
@@ -24,7 +26,7 @@ pub struct PinRow {
 }
 
 // A line of sheet 1: the draw is in milliwatts.
-#[derive(Clone, Copy)]
+#[derive(Clone, Copy, Debug, PartialEq, Eq)]
 pub struct ModeRow {
     pub unit: u8,
     pub mode: u8,
@@ -34,7 +36,7 @@ pub struct ModeRow {
 }
 
 // A line of sheet 2, in millivolts.
-#[derive(Clone, Copy)]
+#[derive(Clone, Copy, Debug, PartialEq, Eq)]
 pub struct BoundRow {
     pub unit: u8,
     pub mode: u8,
@@ -44,7 +46,7 @@ pub struct BoundRow {
 }
 
 // A line of sheet 3: the customer wants the rail between two values, both included.
-#[derive(Clone, Copy)]
+#[derive(Clone, Copy, Debug, PartialEq, Eq)]
 pub struct Demand {
     pub rail: u8,
     pub low: u16,
@@ -52,9 +54,22 @@ pub struct Demand {
 }
 
 // A pin of a mode of a unit, where sheet 2 owes bounds.
-#[derive(Clone, Copy)]
+#[derive(Clone, Copy, Debug, PartialEq, Eq)]
 pub struct Place {
     pub unit: u8,
     pub mode: u8,
     pub pin: u8,
+}
+
+impl BoundRow {
+    // Where the row's bounds hold.
+    pub fn place(&self) -> Place
+        ensures { result ≡ place_of self.now }
+    {
+        Place {
+            unit: self.unit,
+            mode: self.mode,
+            pin: self.pin,
+        }
+    }
 }
