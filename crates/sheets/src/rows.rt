@@ -1,6 +1,6 @@
 // The rows of the four sheets, as plain records.
 ghost use Rattle.std.specs.Prelude.{◌≡◌};
-ghost use Rattle.sheets.specs.Turns.{place_of};
+ghost use Rattle.sheets.specs.Turns.{pin_place, place_of};
 
 // Whether a pin drives its rail or loads it.
 #[derive(Clone, Copy, Debug, PartialEq, Eq)]
@@ -59,6 +59,19 @@ pub struct Place {
     pub unit: u8,
     pub mode: u8,
     pub pin: u8,
+}
+
+impl ModeRow {
+    // Where bounds are due at a pin of the mode's unit.
+    pub(crate) fn place(&self, pin: &PinRow) -> Place
+        ensures { result ≡ pin_place self.now pin.now }
+    {
+        Place {
+            unit: self.unit,
+            mode: self.mode,
+            pin: pin.pin,
+        }
+    }
 }
 
 impl BoundRow {
