@@ -1,6 +1,6 @@
 -- What a call may answer, and what two calls one after the other may. Assumes nothing.
 use Rattle.std.specs.Prelude.{◌≡◌, ◌<◌, ◌⊎◌, Ok, Err, Result}
-use Rattle.answers.specs.Refusals.{Refusal}
+use Rattle.answers.specs.declared.refusal.Refusal.{Refusal}
 
 -- there is one answer at most
 abbrev pub One : {A F : Type 0} → (Result A F → Type 0) → Type 0

@@ -1,5 +1,6 @@
 -- Every case of every fault: its number, its sheet and its line. Assumes nothing.
-use Rattle.answers.specs.Refusals.{Refusal, refusal}
+use Rattle.answers.specs.declared.refusal.Refusal.{Refusal}
+use Rattle.answers.specs.Refusals.{refusal}
 use Rattle.faults.specs.declared.sheet.SheetFault.{SheetFault}
 use Rattle.faults.specs.declared.sheet.SheetFault.TheVariants.{TooLong, Names, Shape, Field, Turn, Crossed, Short, Memory as SheetMemory}
 use Rattle.faults.specs.declared.platform.PlatformFault.{PlatformFault}

@@ -8,6 +8,7 @@ pub mod settle;
 pub mod sheet;
 
 pub use listing::ListingFault;
+pub use number::Fault;
 pub use platform::PlatformFault;
 pub use settle::SettleFault;
 pub use sheet::SheetFault;

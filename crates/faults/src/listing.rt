@@ -7,7 +7,7 @@ use crate::settle::SettleFault;
 use std::fmt;
 
 // The whole input is too long; it has too few empty lines; its platform or its settling is refused; want of memory.
-#[derive(Clone, Copy)]
+#[derive(Clone, Copy, Debug, PartialEq, Eq)]
 pub enum ListingFault {
     Input,
     Parts,

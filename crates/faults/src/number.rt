@@ -1,146 +1,90 @@
 // What a fault says of itself: its number, and the sheet and line that it speaks of.
 ghost use Rattle.std.specs.Prelude.{◌≡◌};
+ghost use Rattle.answers.specs.declared.refusal.Refusal.{Refusal};
 ghost use Rattle.faults.specs.Numbers.{sheet_refusal, platform_refusal, settle_refusal, listing_refusal};
 
 use crate::listing::ListingFault;
 use crate::platform::PlatformFault;
 use crate::settle::SettleFault;
 use crate::sheet::SheetFault;
+use answers::Refusal;
 
-impl SheetFault {
-    pub fn number(&self) -> u8
-        ensures { result ≡ (sheet_refusal self.now).number }
+pub trait Fault {
+    ghost says: { Self → Refusal };
+
+    fn refusal(&self) -> Refusal
+        ensures { result ≡ says self.now };
+
+    fn number(&self) -> u8
+        ensures { result ≡ (says self.now).number }
     {
-        match self {
-            SheetFault::TooLong { .. } => 1,
-            SheetFault::Names { .. } => 2,
-            SheetFault::Shape { .. } => 3,
-            SheetFault::Field { .. } => 4,
-            SheetFault::Turn { .. } => 5,
-            SheetFault::Crossed { .. } => 6,
-            SheetFault::Short { .. } => 7,
-            SheetFault::Memory => 0,
-        }
+        self.refusal().number
     }
 
-    pub fn sheet(&self) -> u8
-        ensures { result ≡ (sheet_refusal self.now).sheet }
+    fn sheet(&self) -> u8
+        ensures { result ≡ (says self.now).sheet }
     {
-        match self {
-            SheetFault::TooLong { sheet } | SheetFault::Names { sheet } => *sheet,
-            SheetFault::Shape { sheet, .. }
-            | SheetFault::Field { sheet, .. }
-            | SheetFault::Turn { sheet, .. }
-            | SheetFault::Crossed { sheet, .. }
-            | SheetFault::Short { sheet, .. } => *sheet,
-            SheetFault::Memory => 0,
-        }
+        self.refusal().sheet
     }
 
-    pub fn line(&self) -> usize
-        ensures { result ≡ (sheet_refusal self.now).line }
+    fn line(&self) -> usize
+        ensures { result ≡ (says self.now).line }
     {
-        match self {
-            SheetFault::TooLong { .. } | SheetFault::Names { .. } | SheetFault::Memory => 0,
-            SheetFault::Shape { line, .. }
-            | SheetFault::Field { line, .. }
-            | SheetFault::Turn { line, .. }
-            | SheetFault::Crossed { line, .. }
-            | SheetFault::Short { line, .. } => *line,
+        self.refusal().line
+    }
+}
+
+impl Fault for SheetFault {
+    ghost says = { sheet_refusal };
+
+    fn refusal(&self) -> Refusal {
+        match *self {
+            SheetFault::TooLong { sheet } => Refusal::new(1, sheet, 0),
+            SheetFault::Names { sheet } => Refusal::new(2, sheet, 0),
+            SheetFault::Shape { sheet, line } => Refusal::new(3, sheet, line),
+            SheetFault::Field { sheet, line } => Refusal::new(4, sheet, line),
+            SheetFault::Turn { sheet, line } => Refusal::new(5, sheet, line),
+            SheetFault::Crossed { sheet, line } => Refusal::new(6, sheet, line),
+            SheetFault::Short { sheet, line } => Refusal::new(7, sheet, line),
+            SheetFault::Memory => Refusal::new(0, 0, 0),
         }
     }
 }
 
-impl PlatformFault {
-    pub fn number(&self) -> u8
-        ensures { result ≡ (platform_refusal self.now).number }
-    {
-        match self {
-            PlatformFault::Sheet(e) => e.number(),
-            PlatformFault::Twice { .. } => 8,
-            PlatformFault::Driver { .. } => 9,
-            PlatformFault::Memory => 0,
-        }
-    }
+impl Fault for PlatformFault {
+    ghost says = { platform_refusal };
 
-    pub fn sheet(&self) -> u8
-        ensures { result ≡ (platform_refusal self.now).sheet }
-    {
+    fn refusal(&self) -> Refusal {
         match self {
-            PlatformFault::Sheet(e) => e.sheet(),
-            PlatformFault::Twice { .. } | PlatformFault::Driver { .. } | PlatformFault::Memory => 0,
-        }
-    }
-
-    pub fn line(&self) -> usize
-        ensures { result ≡ (platform_refusal self.now).line }
-    {
-        match self {
-            PlatformFault::Sheet(e) => e.line(),
-            PlatformFault::Twice { .. } | PlatformFault::Driver { .. } | PlatformFault::Memory => 0,
+            PlatformFault::Sheet(e) => e.refusal(),
+            PlatformFault::Twice { .. } => Refusal::new(8, 0, 0),
+            PlatformFault::Driver { .. } => Refusal::new(9, 0, 0),
+            PlatformFault::Memory => Refusal::new(0, 0, 0),
         }
     }
 }
 
-impl SettleFault {
-    pub fn number(&self) -> u8
-        ensures { result ≡ (settle_refusal self.now).number }
-    {
-        match self {
-            SettleFault::UnknownRail { .. } => 10,
-            SettleFault::NoChoice => 11,
-        }
-    }
+impl Fault for SettleFault {
+    ghost says = { settle_refusal };
 
-    pub fn sheet(&self) -> u8
-        ensures { result ≡ (settle_refusal self.now).sheet }
-    {
-        match self {
-            SettleFault::UnknownRail { .. } => 3,
-            SettleFault::NoChoice => 0,
-        }
-    }
-
-    pub fn line(&self) -> usize
-        ensures { result ≡ (settle_refusal self.now).line }
-    {
-        match self {
-            SettleFault::UnknownRail { line } => *line,
-            SettleFault::NoChoice => 0,
+    fn refusal(&self) -> Refusal {
+        match *self {
+            SettleFault::UnknownRail { line } => Refusal::new(10, 3, line),
+            SettleFault::NoChoice => Refusal::new(11, 0, 0),
         }
     }
 }
 
-impl ListingFault {
-    pub fn number(&self) -> u8
-        ensures { result ≡ (listing_refusal self.now).number }
-    {
-        match self {
-            ListingFault::Input => 1,
-            ListingFault::Parts => 23,
-            ListingFault::Platform(e) => e.number(),
-            ListingFault::Settle(e) => e.number(),
-            ListingFault::Memory => 0,
-        }
-    }
+impl Fault for ListingFault {
+    ghost says = { listing_refusal };
 
-    pub fn sheet(&self) -> u8
-        ensures { result ≡ (listing_refusal self.now).sheet }
-    {
+    fn refusal(&self) -> Refusal {
         match self {
-            ListingFault::Platform(e) => e.sheet(),
-            ListingFault::Settle(e) => e.sheet(),
-            ListingFault::Input | ListingFault::Parts | ListingFault::Memory => 0,
-        }
-    }
-
-    pub fn line(&self) -> usize
-        ensures { result ≡ (listing_refusal self.now).line }
-    {
-        match self {
-            ListingFault::Platform(e) => e.line(),
-            ListingFault::Settle(e) => e.line(),
-            ListingFault::Input | ListingFault::Parts | ListingFault::Memory => 0,
+            ListingFault::Input => Refusal::new(1, 0, 0),
+            ListingFault::Parts => Refusal::new(23, 0, 0),
+            ListingFault::Platform(e) => e.refusal(),
+            ListingFault::Settle(e) => e.refusal(),
+            ListingFault::Memory => Refusal::new(0, 0, 0),
         }
     }
 }

@@ -6,7 +6,7 @@ use crate::sheet::SheetFault;
 use std::alloc::{AllocError, AllocFailed};
 
 // A fault of one of its sheets; a unit with two pins on one rail; a rail with no driver or several; want of memory.
-#[derive(Clone, Copy)]
+#[derive(Clone, Copy, Debug, PartialEq, Eq)]
 pub enum PlatformFault {
     Sheet(SheetFault),
     Twice { unit: usize },

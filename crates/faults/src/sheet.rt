@@ -5,7 +5,7 @@ ghost use Rattle.faults.specs.declared.sheet.SheetFault.TheVariants.{Memory};
 use std::alloc::{AllocError, AllocFailed};
 
 // The sheet by its number, and its line counted from the names line, which is 0.
-#[derive(Clone, Copy)]
+#[derive(Clone, Copy, Debug, PartialEq, Eq)]
 pub enum SheetFault {
     TooLong { sheet: u8 },
     Names { sheet: u8 },

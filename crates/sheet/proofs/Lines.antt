@@ -1,12 +1,12 @@
 -- One line, as the reader takes it apart. Assumes nothing.
 use Rattle.std.proofs.Common.{◌≡◌, ℕ, zero, suc, ◌+◌, ◌<◌, ◌≤◌, Bool, true, false, not, List, [], ◌∷◌, ◌++◌, length, get_or, take, drop, Decides, sym, refl, ap, ◌∙◌, subst, inr, ⊎_elim, append_assoc, append-nil, arith, length-append}
 use Rattle.std.specs.List.{flat_map, AllByRecursion}
-use Rattle.std.proofs.lemmas.List.{take_all, take_more, nil_from_length, flat_map_more, length_push}
+use Rattle.std.proofs.lemmas.List.{take_all, nil_from_length, flat_map_more}
 use Rattle.std.proofs.str.Laws.{order}
 use Rattle.text.specs.Written.{Lacks, commas, Fields}
 use Rattle.text.proofs.Cuts.{around}
 use Rattle.sheet.specs.Sheets.{Told}
-use Rattle.sheet.specs.Sheets.{Sheet, Plain, line, line_fault, written, render, Fits, GoodAfter, Good, Granted, At, Misnamed, Unended, Refused, Shaped, Starts, BadLine, LineFault, ReadsRow, Lawful}
+use Rattle.sheet.specs.Sheets.{Sheet, Plain, line, line_fault, written, render, Fits, GoodAfter, Good, Granted, At, Misnamed, Unended, Refused, Shaped, Starts, BadLine, TooFew, LineFault, ReadsRow, Lawful}
 use Rattle.faults.specs.declared.sheet.SheetFault.{SheetFault}
 use Rattle.faults.specs.declared.sheet.SheetFault.TheVariants.{Short}
 use Rattle.sheet.proofs.Laws.{cut_same, line_same, start_same, row_some}
@@ -64,19 +64,19 @@ line_cut {rest = rest} {fs = fs} i l e a isFront h =
       some = h.some;
     }
 
-module _ {Row : Type 0} {s : Sheet Row} (law : Lawful s) (rows : List Row) {h : ℕ} (is_here : h ≡ s.number) where
-  named : (k n : ℕ) → line_fault k h n ≡ line_fault k s.number n
-  named k n = ap (λ x. line_fault k x n) is_here
+module _ {Row : Type 0} {s : Sheet Row} (law : Lawful s) (rows : List Row) {h n : ℕ} (is_here : h ≡ s.number) (is_line : n ≡ length rows + 1) where
+  named : (k : ℕ) → line_fault k h n ≡ line_fault k s.number (length rows + 1)
+  named k i = line_fault k (is_here i) (is_line i)
 
-  pub unended : {rest : List ℕ} (n i : ℕ) → 0 < length rest → length rest ≤ i → Lacks 10 (take i rest) → LineFault s rows rest n (line_fault 0 h n)
-  unended {rest = rest} n i some l a =
-      (0, named 0 n, (some, λ t. let w = t.1 in lacking 10 (commas t.0) w.rest (subst (Lacks 10) (take_all i rest l ∙ w.front ∙ append_assoc (commas t.0) (10 ∷ []) w.rest) a)))
+  pub unended : {rest : List ℕ} (i : ℕ) → 0 < length rest → length rest ≤ i → Lacks 10 (take i rest) → LineFault s rows rest (length rows + 1) (line_fault 0 h n)
+  unended {rest = rest} i some l a =
+      (0, named 0, (some, λ t. let w = t.1 in lacking 10 (commas t.0) w.rest (subst (Lacks 10) (take_all i rest l ∙ w.front ∙ append_assoc (commas t.0) (10 ∷ []) w.rest) a)))
 
-  module _ {rest after : List ℕ} {fs : List (List ℕ)} (cut : Line rest fs after) (n : ℕ) (some : 0 < length rest) where
-    pub miscounted : (length fs ≡ s.width → ⊥) → LineFault s rows rest n (line_fault 0 h n)
+  module _ {rest after : List ℕ} {fs : List (List ℕ)} (cut : Line rest fs after) (some : 0 < length rest) where
+    pub miscounted : (length fs ≡ s.width → ⊥) → LineFault s rows rest (length rows + 1) (line_fault 0 h n)
     miscounted not = (
       0,
-      named 0 n,
+      named 0,
       (
         some,
         λ t.
@@ -89,10 +89,10 @@ module _ {Row : Type 0} {s : Sheet Row} (law : Lawful s) (rows : List Row) {h : 
     shaped : length fs ≡ s.width → (gs : List (List ℕ)) × Shaped s rest gs
     shaped e = (fs, record { rest = after; front = cut.front; plain = cut.plain; width = e })
 
-    pub unread : length fs ≡ s.width → ((r : Row) → s.fields r ≡ fs → s.Ranged r → ⊥) → LineFault s rows rest n (line_fault 1 h n)
+    pub unread : length fs ≡ s.width → ((r : Row) → s.fields r ≡ fs → s.Ranged r → ⊥) → LineFault s rows rest (length rows + 1) (line_fault 1 h n)
     unread e not = (
       1,
-      named 1 n,
+      named 1,
       (
         some,
         (
@@ -115,30 +115,24 @@ module _ {Row : Type 0} {s : Sheet Row} (law : Lawful s) (rows : List Row) {h : 
       the_row : (t : Row) → Starts s rest t → t ≡ r
       the_row t w = (start_same law w.ranged ranged (sym w.front ∙ begins)).0
 
-      pub misplaced : (s.Next rows r → ⊥) → LineFault s rows rest n (line_fault 2 h n)
-      misplaced not = (2, named 2 n, (some, (shaped wide, ((r, starts), λ t. not (subst (s.Next rows) (the_row t.0 t.1) t.2)))))
+      pub misplaced : (s.Next rows r → ⊥) → LineFault s rows rest (length rows + 1) (line_fault 2 h n)
+      misplaced not = (2, named 2, (some, (shaped wide, ((r, starts), λ t. not (subst (s.Next rows) (the_row t.0 t.1) t.2)))))
 
-      pub crossed : s.Next rows r → (s.Level r → ⊥) → LineFault s rows rest n (line_fault 3 h n)
-      crossed next not = (3, named 3 n, (some, (shaped wide, ((r, starts), ((r, starts, next), λ t. not (subst s.Level (the_row t.0 t.1) t.3))))))
+      pub crossed : s.Next rows r → (s.Level r → ⊥) → LineFault s rows rest (length rows + 1) (line_fault 3 h n)
+      crossed next not = (3, named 3, (some, (shaped wide, ((r, starts), ((r, starts, next), λ t. not (subst s.Level (the_row t.0 t.1) t.3))))))
 
       pub reads : s.Next rows r → s.Level r → ReadsRow s rows rest r after
       reads next level = record { front = begins; fits = record { ranged = ranged; next = next; level = level } }
 
--- the bytes begin with the names and these good rows, and rest is left, from line n on
-pub record Sofar {Row : Type 0} (s : Sheet Row) (bs : List ℕ) (rows : List Row) (rest : List ℕ) (n : ℕ) : Type 0 where
+-- the bytes begin with the names and these good rows, and rest is left
+pub record Sofar {Row : Type 0} (s : Sheet Row) (bs : List ℕ) (rows : List Row) (rest : List ℕ) : Type 0 where
   pub short : length bs ≤ 65535
   pub whole : bs ≡ render s rows ++ rest
   pub good : Good s rows
-  pub count : n ≡ length rows + 1
 
 -- one row more at the end
 pub render_more : {Row : Type 0} (s : Sheet Row) (rows : List Row) (r : Row) → render s rows ++ written s r ≡ render s (rows ++ r ∷ [])
 render_more s rows r = append_assoc s.names (10 ∷ flat_map (written s) rows) (written s r) ∙ ap (λ t. s.names ++ 10 ∷ t) (flat_map_more (written s) [] rows r)
-
--- a loop that writes rows, one turn on
-pub written_more : {Row : Type 0} (s : Sheet Row) (rows : List Row) (i : ℕ) (d : Row) (out : List ℕ) → i < length rows → out ≡ render s (take i rows) → out ++ written s (get_or rows i d) ≡ render s (take (i + 1) rows)
-written_more s rows i d out l e =
-    ap (λ t. t ++ written s (get_or rows i d)) e ∙ render_more s (take i rows) (get_or rows i d) ∙ ap (render s) (sym (take_more rows i d l))
 
 good_more : {Row : Type 0} (s : Sheet Row) (b rs : List Row) (r : Row) → GoodAfter s b rs → Fits s (b ++ rs) r → GoodAfter s b (rs ++ r ∷ [])
 good_more s b [] r h f = (subst (λ l. Fits s l r) (append-nil b) f, tt)
@@ -152,46 +146,44 @@ pub shrinks : {Row : Type 0} {s : Sheet Row} {rows : List Row} {r : Row} {rest a
 shrinks {s = s} {r = r} {after = after} w = omega (arith, ap length w.front, length-append (written s r) after, length-append (commas (s.fields r)) (10 ∷ []))
 
 module _ {Row : Type 0} {s : Sheet Row} {bs : List ℕ} where
-  pub one_more : {rows more : List Row} {r : Row} {rest after : List ℕ} {n : ℕ} → Sofar s bs rows rest n → ReadsRow s rows rest r after → more ≡ rows ++ r ∷ [] → Sofar s bs more after (n + 1)
-  one_more {rows = rows} {r = r} {after = after} {n = n} h w e = subst (λ l. Sofar s bs l after (n + 1)) (sym e) (record {
+  pub one_more : {rows more : List Row} {r : Row} {rest after : List ℕ} → Sofar s bs rows rest → ReadsRow s rows rest r after → more ≡ rows ++ r ∷ [] → Sofar s bs more after
+  one_more {rows = rows} {r = r} {after = after} h w e = subst (λ l. Sofar s bs l after) (sym e) (record {
     short = h.short;
     whole = h.whole ∙ ap (λ t. render s rows ++ t) w.front ∙ sym (append_assoc (render s rows) (written s r) after) ∙ ap (λ t. t ++ after) (render_more s rows r);
     good = good_more s [] rows r h.good w.fits;
-    count = ap (λ k. k + 1) h.count ∙ ap (λ k. k + 1) (sym (length_push rows r));
   })
 
-  pub counts : {rows : List Row} {rest : List ℕ} {n : ℕ} → Sofar s bs rows rest n → n ≤ 65536
-  counts {rows = rows} {rest = rest} h = omega (arith, h.count, h.short, ap length h.whole, length-append (render s rows) rest, length-append s.names (10 ∷ flat_map (written s) rows), few s rows)
+  pub counts : {rows : List Row} {rest : List ℕ} → Sofar s bs rows rest → length rows < 65536
+  counts {rows = rows} {rest = rest} h = omega (arith, h.short, ap length h.whole, length-append (render s rows) rest, length-append s.names (10 ∷ flat_map (written s) rows), few s rows)
 
-  here : {P : List Row → List ℕ → Type 0} {rows : List Row} {rest : List ℕ} {n : ℕ} → Sofar s bs rows rest n → P rows rest → At s P bs n
-  here {rows = rows} {rest = rest} h p = record { short = h.short; rows = rows; rest = rest; whole = h.whole; good = h.good; count = h.count; here = p }
+  here : {P : List Row → List ℕ → Type 0} {rows : List Row} {rest : List ℕ} → Sofar s bs rows rest → P rows rest → At s P bs (length rows + 1)
+  here {rows = rows} {rest = rest} h p = record { short = h.short; rows = rows; rest = rest; whole = h.whole; good = h.good; count = refl; here = p }
 
-  pub stopped : {rows : List Row} {rest : List ℕ} {n : ℕ} (f : SheetFault) → Sofar s bs rows rest n → LineFault s rows rest n f → Refused s bs f
-  stopped {rows = rows} {rest = rest} {n = n} f h t = subst (Refused s bs) (sym t.1) (by_check t.0 t.2)
+  pub stopped : {rows : List Row} {rest : List ℕ} (f : SheetFault) → Sofar s bs rows rest → LineFault s rows rest (length rows + 1) f → Refused s bs f
+  stopped {rows = rows} {rest = rest} f h t = subst (Refused s bs) (sym t.1) (by_check t.0 t.2)
     where
-      by_check : (k : ℕ) → BadLine s k rows rest → Refused s bs (line_fault k s.number n)
+      by_check : (k : ℕ) → BadLine s k rows rest → Refused s bs (line_fault k s.number (length rows + 1))
       by_check zero b = (refl, inr (here h b))
       by_check (suc zero) b = (refl, here h b)
       by_check (suc (suc zero)) b = (refl, here h b)
       by_check (suc (suc (suc zero))) b = (refl, here h b)
       by_check (suc (suc (suc (suc k)))) b = absurd b.1.1.1.1.1
 
-  pub passes_on : {rows : List Row} {rest : List ℕ} {n : ℕ} (f : SheetFault) → Sofar s bs rows rest n → Told (LineFault s rows rest n) f → Told (Refused s bs) f
+  pub passes_on : {rows : List Row} {rest : List ℕ} (f : SheetFault) → Sofar s bs rows rest → Told (LineFault s rows rest (length rows + 1)) f → Told (Refused s bs) f
   passes_on f h t numbered = stopped f h (t numbered)
 
-  pub short_of : {rows : List Row} {rest : List ℕ} {n h : ℕ} → h ≡ s.number → Sofar s bs rows rest n → length rest ≡ 0 → (s.Whole rows → ⊥) → Refused s bs (Short h n)
-  short_of e sofar none not = (e, here sofar (nil_from_length _ none, not))
+  pub short_of : {rows : List Row} {rest : List ℕ} {n h : ℕ} → h ≡ s.number → n ≡ length rows + 1 → Sofar s bs rows rest → length rest ≡ 0 → (s.Whole rows → ⊥) → Refused s bs (Short h n)
+  short_of e is_line sofar none not = (e, subst (At s (TooFew s) bs) (sym is_line) (here sofar (nil_from_length _ none, not)))
 
-  pub granted : {rows : List Row} {rest : List ℕ} {n : ℕ} → Sofar s bs rows rest n → length rest ≡ 0 → s.Whole rows → Granted s bs rows
+  pub granted : {rows : List Row} {rest : List ℕ} → Sofar s bs rows rest → length rest ≡ 0 → s.Whole rows → Granted s bs rows
   granted {rows = rows} h e all = record { short = h.short; whole = h.whole ∙ ap (λ t. render s rows ++ t) (nil_from_length _ e) ∙ append-nil _; good = h.good; complete = all }
 
   -- the names line
-  pub begun : (i : ℕ) → length bs ≤ 65535 → i < length bs → get_or bs i 0 ≡ 10 → take i bs ≡ s.names → Sofar s bs [] (drop (i + 1) bs) 1
+  pub begun : (i : ℕ) → length bs ≤ 65535 → i < length bs → get_or bs i 0 ≡ 10 → take i bs ≡ s.names → Sofar s bs [] (drop (i + 1) bs)
   begun i l k e same = record {
     short = l;
     whole = sym (append_assoc s.names (10 ∷ []) (drop (i + 1) bs) ∙ ap (λ t. t ++ 10 ∷ drop (i + 1) bs) (sym same) ∙ around bs i 10 k e);
     good = tt;
-    count = refl;
   }
 
   pub misnamed : (i : ℕ) → Lacks 10 s.names → length bs ≤ 65535 → (i < length bs → get_or bs i 0 ≡ 10) → Lacks 10 (take i bs) → (take i bs ≡ s.names → ⊥) → Misnamed s bs

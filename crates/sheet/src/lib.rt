@@ -5,4 +5,4 @@ pub mod layout;
 pub mod read;
 
 pub use layout::Layout;
-pub use read::{read_sheet, sheet_laws};
+pub use read::{LONGEST, read_sheet, sheet_laws};

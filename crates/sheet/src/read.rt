@@ -1,5 +1,5 @@
 // Reads a sheet's bytes into rows.
-ghost use Rattle.std.specs.Prelude.{◌≡◌, ◌<◌, length, vec_items, MatchResult};
+ghost use Rattle.std.specs.Prelude.{◌≡◌, ◌+◌, ◌<◌, length, vec_items, MatchResult};
 ghost use Rattle.answers.specs.Sequels.{Exactly};
 ghost use Rattle.faults.specs.Numbers.{sheet_refusal};
 ghost use Rattle.sheet.specs.Sheets.{Told};
@@ -9,7 +9,16 @@ use crate::layout::Layout;
 use faults::SheetFault;
 use std::alloc::Global;
 
-const LONGEST: usize = 65535;
+// No sheet is longer.
+pub const LONGEST: usize = 65535;
+
+// The line that follows these rows, where the names line is line 0.
+fn line_after<R>(rows: &[R]) -> usize
+    requires { length rows.now < 65536 }
+    ensures { result ≡ length rows.now + 1 }
+{
+    rows.len() + 1
+}
 
 // The row of the line that begins `rest`, and what follows that line.
 fn read_line<'a, L: Layout>(
@@ -17,12 +26,13 @@ fn read_line<'a, L: Layout>(
     layout: &L,
     rows: &[L::Row],
     rest: &'a [u8],
-    line: usize,
 ) -> Result<(L::Row, &'a [u8]), SheetFault>
-    requires { 0 < length rest.now }
-    ensures { MatchResult result (λ p. ReadsRow (L.Layout.sheet layout.now) rows.now rest.now p.0 p.1.now) (Told (LineFault (L.Layout.sheet layout.now) rows.now rest.now line)) }
+    requires some { 0 < length rest.now }
+    requires few { length rows.now < 65536 }
+    ensures { MatchResult result (λ p. ReadsRow (L.Layout.sheet layout.now) rows.now rest.now p.0 p.1.now) (Told (LineFault (L.Layout.sheet layout.now) rows.now rest.now (length rows.now + 1))) }
 {
     let sheet = layout.number();
+    let line = line_after(rows);
     let end = text::find(rest, b'\n');
     if end == rest.len() {
         return Err(SheetFault::Shape { sheet, line });
@@ -60,14 +70,13 @@ fn read_rows<L: Layout>(heap: Global, layout: &L, bytes: &[u8]) -> Result<Vec<L:
     }
     let mut rows = Vec::new(heap);
     let mut rest = &bytes[end + 1..];
-    let mut line = 1;
     while !rest.is_empty() {
-        let (row, after) = read_line(heap, layout, rows.as_slice(), rest, line)?;
+        let (row, after) = read_line(heap, layout, rows.as_slice(), rest)?;
         rows.push(row)?;
         rest = after;
-        line += 1;
     }
     if !layout.whole(rows.as_slice()) {
+        let line = line_after(rows.as_slice());
         return Err(SheetFault::Short { sheet, line });
     }
     Ok(rows)

@@ -56,12 +56,7 @@ impl Layout for BoundSheet {
     }
 
     fn next(&self, rows: &[BoundRow], row: &BoundRow) -> bool {
-        let at = rows.len();
-        if at >= self.places.len() {
-            return false;
-        }
-        let due = self.places[at];
-        row.unit == due.unit && row.mode == due.mode && row.pin == due.pin
+        self.places.get(rows.len()) == Some(&row.place())
     }
 
     fn level(&self, row: &BoundRow) -> bool {
@@ -74,19 +69,11 @@ impl Layout for BoundSheet {
 }
 
 // Adds the places of one mode.
-fn add_places(out: &mut Vec<Place>, pins: &[PinRow], mode: ModeRow) -> Result<(), AllocError>
-    ensures { OnOk result (out.new.items ≡ out.old.items ++ mode_places pins.now mode) }
+fn add_places(out: &mut Vec<Place>, pins: &[PinRow], mode: &ModeRow) -> Result<(), AllocError>
+    ensures { OnOk result (out.new.items ≡ out.old.items ++ mode_places pins.now mode.now) }
 {
-    for pin in pins {
-        if pin.unit == mode.unit {
-            out.push(Place {
-                unit: mode.unit,
-                mode: mode.mode,
-                pin: pin.pin,
-            })?;
-        }
-    }
-    Ok(())
+    let own = pins.iter().filter(|pin| pin.unit == mode.unit);
+    out.extend(own.map(|pin| mode.place(pin)))
 }
 
 // Where bounds are due, given the pins and the modes.
@@ -95,7 +82,7 @@ fn places_of(heap: Global, pins: &[PinRow], modes: &[ModeRow]) -> Result<Vec<Pla
 {
     let mut out = Vec::new(heap);
     for mode in modes {
-        add_places(&mut out, pins, *mode)?;
+        add_places(&mut out, pins, mode)?;
     }
     Ok(out)
 }

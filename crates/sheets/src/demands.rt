@@ -11,7 +11,7 @@ use faults::SheetFault;
 use sheet::Layout;
 use std::alloc::Global;
 
-#[derive(Clone, Copy)]
+#[derive(Clone, Copy, Debug, PartialEq, Eq)]
 pub struct DemandSheet;
 
 impl Layout for DemandSheet {
@@ -48,10 +48,7 @@ impl Layout for DemandSheet {
     }
 
     fn next(&self, rows: &[Demand], row: &Demand) -> bool {
-        match rows.last() {
-            Some(before) => before.rail < row.rail,
-            None => true,
-        }
+        rows.last().is_none_or(|before| before.rail < row.rail)
     }
 
     fn level(&self, row: &Demand) -> bool {

@@ -3,6 +3,8 @@
 
 pub mod bounds;
 pub mod demands;
+pub mod four;
+pub mod letter;
 pub mod modes;
 pub mod pins;
 pub mod read;
@@ -12,6 +14,8 @@ mod turn;
 
 pub use bounds::{BoundSheet, read_bounds};
 pub use demands::{DemandSheet, read_demands};
+pub use four::FourSheets;
+pub use letter::UnknownLetter;
 pub use modes::{ModeSheet, read_modes};
 pub use pins::{PinSheet, read_pins, units_of};
 pub use read::{read_sheets, sheets_read_back};

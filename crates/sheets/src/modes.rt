@@ -1,34 +1,20 @@
 // Sheet 1, the modes of the units.
-ghost use Rattle.std.specs.Prelude.{◌≡◌, vec_items, MatchOption, ◌≢◌};
+ghost use Rattle.std.specs.Prelude.{vec_items};
 ghost use Rattle.answers.specs.Sequels.{Exactly};
 ghost use Rattle.faults.specs.Numbers.{sheet_refusal};
 ghost use Rattle.sheet.specs.Sheets.{Outcome};
-ghost use Rattle.sheets.specs.Kinds.{kind_letter, mode_sheet};
+ghost use Rattle.sheets.specs.Kinds.{mode_sheet};
 ghost use Rattle.sheets.specs.Fields.{modes_lawful};
 
 use crate::rows::{Kind, ModeRow};
-use crate::turn::{begins, follows};
 use faults::SheetFault;
 use sheet::Layout;
 use std::alloc::Global;
 
 // The sheet has modes for so many units.
-#[derive(Clone, Copy)]
+#[derive(Clone, Copy, Debug, PartialEq, Eq)]
 pub struct ModeSheet {
     pub units: usize,
-}
-
-fn kind_of(field: &[u8]) -> Option<Kind>
-    ensures { MatchOption result ((k : Kind) → field.now ≢ kind_letter k) (λ k. field.now ≡ kind_letter k) }
-{
-    if field.len() != 1 {
-        return None;
-    }
-    match field[0] {
-        b'R' => Some(Kind::Rest),
-        b'P' => Some(Kind::Pass),
-        _ => None,
-    }
 }
 
 impl Layout for ModeSheet {
@@ -56,7 +42,7 @@ impl Layout for ModeSheet {
         };
         let unit = text::number(unit, 23)?;
         let mode = text::number(mode, 5)?;
-        let kind = kind_of(kind)?;
+        let kind = Kind::try_from(*kind).ok()?;
         let draw = text::number(draw, 1_000_000)?;
         let heat = text::number(heat, 15)?;
         Some(ModeRow {
@@ -69,13 +55,7 @@ impl Layout for ModeSheet {
     }
 
     fn next(&self, rows: &[ModeRow], row: &ModeRow) -> bool {
-        if row.unit as usize >= self.units {
-            return false;
-        }
-        match rows.last() {
-            Some(before) => follows(row.unit, row.mode, before.unit, before.mode),
-            None => begins(row.unit, row.mode),
-        }
+        usize::from(row.unit) < self.units && row.turn().follows(rows.last().map(ModeRow::turn))
     }
 
     fn level(&self, _row: &ModeRow) -> bool {
@@ -83,10 +63,8 @@ impl Layout for ModeSheet {
     }
 
     fn whole(&self, rows: &[ModeRow]) -> bool {
-        match rows.last() {
-            Some(end) => self.units > 0 && self.units - 1 == end.unit as usize,
-            None => false,
-        }
+        rows.last()
+            .is_some_and(|end| usize::from(end.unit) + 1 == self.units)
     }
 }
 

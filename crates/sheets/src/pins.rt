@@ -1,33 +1,19 @@
 // Sheet 0, the pins of the units.
-ghost use Rattle.std.specs.Prelude.{◌≡◌, [], ◌∷◌, vec_items, MatchOption, ◌≢◌};
+ghost use Rattle.std.specs.Prelude.{◌≡◌, vec_items};
 ghost use Rattle.answers.specs.Sequels.{Exactly};
 ghost use Rattle.faults.specs.Numbers.{sheet_refusal};
 ghost use Rattle.sheet.specs.Sheets.{Outcome};
 ghost use Rattle.sheets.specs.Turns.{unit_count};
-ghost use Rattle.sheets.specs.Kinds.{way_letter, pin_sheet};
+ghost use Rattle.sheets.specs.Kinds.{pin_sheet};
 ghost use Rattle.sheets.specs.Fields.{pins_lawful};
 
 use crate::rows::{PinRow, Way};
-use crate::turn::{begins, follows};
 use faults::SheetFault;
 use sheet::Layout;
 use std::alloc::Global;
 
-#[derive(Clone, Copy)]
+#[derive(Clone, Copy, Debug, PartialEq, Eq)]
 pub struct PinSheet;
-
-fn way_of(field: &[u8]) -> Option<Way>
-    ensures { MatchOption result ((w : Way) → field.now ≢ way_letter w) (λ w. field.now ≡ way_letter w) }
-{
-    if field.len() != 1 {
-        return None;
-    }
-    match field[0] {
-        b'D' => Some(Way::Drives),
-        b'L' => Some(Way::Loads),
-        _ => None,
-    }
-}
 
 impl Layout for PinSheet {
     type Row = PinRow;
@@ -55,7 +41,7 @@ impl Layout for PinSheet {
         let unit = text::number(unit, 23)?;
         let pin = text::number(pin, 3)?;
         let rail = text::number(rail, 23)?;
-        let way = way_of(way)?;
+        let way = Way::try_from(*way).ok()?;
         Some(PinRow {
             unit: unit as u8,
             pin: pin as u8,
@@ -65,10 +51,7 @@ impl Layout for PinSheet {
     }
 
     fn next(&self, rows: &[PinRow], row: &PinRow) -> bool {
-        match rows.last() {
-            Some(before) => follows(row.unit, row.pin, before.unit, before.pin),
-            None => begins(row.unit, row.pin),
-        }
+        row.turn().follows(rows.last().map(PinRow::turn))
     }
 
     fn level(&self, _row: &PinRow) -> bool {
@@ -87,18 +70,9 @@ pub fn read_pins(heap: Global, bytes: &[u8]) -> Result<Vec<PinRow>, SheetFault>
     sheet::read_sheet(heap, &PinSheet, bytes)
 }
 
-fn one_more(last: PinRow) -> usize
-    ensures { result ≡ unit_count (last ∷ []) }
-{
-    last.unit as usize + 1
-}
-
 // How many units the pins have.
 pub fn units_of(rows: &[PinRow]) -> usize
     ensures { result ≡ unit_count rows.now }
 {
-    match rows.last() {
-        Some(last) => one_more(*last),
-        None => 0,
-    }
+    rows.last().map_or(0, |last| usize::from(last.unit) + 1)
 }

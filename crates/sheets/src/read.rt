@@ -3,12 +3,14 @@ ghost use Rattle.std.specs.Prelude.{◌≡◌, ℕ, List};
 ghost use Rattle.answers.specs.Sequels.{Exactly};
 ghost use Rattle.faults.specs.Numbers.{sheet_refusal};
 ghost use Rattle.sheet.specs.Sheets.{OneWriting, ReadsBack};
+ghost use Rattle.sheets.specs.Fours.{four_of};
 ghost use Rattle.sheets.specs.Kinds.{pin_sheet, mode_sheet, bound_sheet, demand_sheet};
 ghost use Rattle.sheets.specs.Reading.{Reading};
 ghost use Rattle.sheets.specs.Sets.{rows_of};
 
 use crate::bounds::read_bounds;
 use crate::demands::read_demands;
+use crate::four::FourSheets;
 use crate::modes::read_modes;
 use crate::pins::{read_pins, units_of};
 use crate::rows::Place;
@@ -17,19 +19,13 @@ use faults::SheetFault;
 use std::alloc::Global;
 
 // The rows of the four sheets, or the first fault: each sheet is read whole before the next.
-pub fn read_sheets(
-    heap: Global,
-    pins: &[u8],
-    modes: &[u8],
-    bounds: &[u8],
-    demands: &[u8],
-) -> Result<Sheets, SheetFault>
-    ensures { Exactly rows_of sheet_refusal (Reading pins.now modes.now bounds.now demands.now) result }
+pub fn read_sheets(heap: Global, four: FourSheets) -> Result<Sheets, SheetFault>
+    ensures { let f = four_of four.entry in Exactly rows_of sheet_refusal (Reading f.pins f.modes f.bounds f.demands) result }
 {
-    let pins = read_pins(heap, pins)?;
-    let modes = read_modes(heap, units_of(&pins), modes)?;
-    let bounds = read_bounds(heap, &pins, &modes, bounds)?;
-    let demands = read_demands(heap, demands)?;
+    let pins = read_pins(heap, four.pins)?;
+    let modes = read_modes(heap, units_of(&pins), four.modes)?;
+    let bounds = read_bounds(heap, &pins, &modes, four.bounds)?;
+    let demands = read_demands(heap, four.demands)?;
     Ok(Sheets {
         pins,
         modes,

@@ -1,4 +1,6 @@
 // The rows of the four sheets, as plain records.
+ghost use Rattle.std.specs.Prelude.{◌≡◌};
+ghost use Rattle.sheets.specs.Turns.{pin_place, place_of};
 
 // Whether a pin drives its rail or loads it.
 #[derive(Clone, Copy, Debug, PartialEq, Eq)]
@@ -57,4 +59,30 @@ pub struct Place {
     pub unit: u8,
     pub mode: u8,
     pub pin: u8,
+}
+
+impl ModeRow {
+    // Where bounds are due at a pin of the mode's unit.
+    pub(crate) fn place(&self, pin: &PinRow) -> Place
+        ensures { result ≡ pin_place self.now pin.now }
+    {
+        Place {
+            unit: self.unit,
+            mode: self.mode,
+            pin: pin.pin,
+        }
+    }
+}
+
+impl BoundRow {
+    // Where the row's bounds hold.
+    pub fn place(&self) -> Place
+        ensures { result ≡ place_of self.now }
+    {
+        Place {
+            unit: self.unit,
+            mode: self.mode,
+            pin: self.pin,
+        }
+    }
 }

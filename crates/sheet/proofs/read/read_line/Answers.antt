@@ -22,7 +22,7 @@ module _ (g : given.Over) where
   counted c = c.len.ensures ∙ c.in_ok-fields.fields.ok.0 ∙ sym (length-map (vec_items c.in_ok-fields.fields) (λ x. x.now))
 
 pub returns-then-end-rest : goal.returns-then-end-rest
-returns-then-end-rest g c _ = unended (g.met.L.Layout.lawful c.args.layout.now) c.args.rows.now c.number-sheet.ensures c.args.line c.find-end.result c.requires (omega arith) c.find-end.ensures.before
+returns-then-end-rest g c _ = unended (g.met.L.Layout.lawful c.args.layout.now) c.args.rows.now c.number-sheet.ensures c.line_after-line.ensures c.find-end.result c.requires.some (omega arith) c.find-end.ensures.before
 
 pub returns-in_err-fields : goal.returns-in_err-fields
 returns-in_err-fields g c = let p = err_from_is_err_and c.from_residual.result c.from_residual.ensures.1 in rw (p.1, p.2) (λ none. absurd (omega arith))
@@ -30,28 +30,28 @@ returns-in_err-fields g c = let p = err_from_is_err_and c.from_residual.result c
 pub returns-then-len-width : goal.returns-then-len-width
 returns-then-len-width g c _ =
     let b = (goal.at.returns-then-len-width g c).After-width in
-    miscounted (law g b) c.args.rows.now c.number-sheet.ensures (cut g b) c.args.line c.requires (λ e. c.if-len-width.true (counted g b ∙ e ∙ sym c.width.ensures))
+    miscounted (law g b) c.args.rows.now c.number-sheet.ensures c.line_after-line.ensures (cut g b) c.requires.some (λ e. c.if-len-width.true (counted g b ∙ e ∙ sym c.width.ensures))
 
 pub returns-in_default : goal.returns-in_default
 returns-in_default g c _ =
     let b = (goal.at.returns-in_default g c).After-width in
-    unread (law g b) c.args.rows.now c.number-sheet.ensures (cut g b) c.args.line c.requires (sym (counted g b) ∙ c.if-len-width.false ∙ c.width.ensures) (λ r e. c.in_default.ensures r (e ∙ ap (map (λ x. x.now)) (sym c.as_slice.ensures.value)))
+    unread (law g b) c.args.rows.now c.number-sheet.ensures c.line_after-line.ensures (cut g b) c.requires.some (sym (counted g b) ∙ c.if-len-width.false ∙ c.width.ensures) (λ r e. c.in_default.ensures r (e ∙ ap (map (λ x. x.now)) (sym c.as_slice.ensures.value)))
 
 pub returns-then-not-next : goal.returns-then-not-next
 returns-then-not-next g c _ =
     let b = (goal.at.returns-then-not-next g c).After-width in
     let x = c.in-Some.ensures in
-    misplaced (law g b) c.args.rows.now c.number-sheet.ensures (cut g b) c.args.line c.requires (sym (counted g b) ∙ c.if-len-width.false ∙ c.width.ensures) (x.0 ∙ ap (map (λ x. x.now)) c.as_slice.ensures.value) x.1 (refuted c.if-not-next.true c.next.ensures)
+    misplaced (law g b) c.args.rows.now c.number-sheet.ensures c.line_after-line.ensures (cut g b) c.requires.some (sym (counted g b) ∙ c.if-len-width.false ∙ c.width.ensures) (x.0 ∙ ap (map (λ x. x.now)) c.as_slice.ensures.value) x.1 (refuted c.if-not-next.true c.next.ensures)
 
 pub returns-then-not-level : goal.returns-then-not-level
 returns-then-not-level g c _ =
     let b = (goal.at.returns-then-not-level g c).After-width in
     let x = c.in-Some.ensures in
-    crossed (law g b) c.args.rows.now c.number-sheet.ensures (cut g b) c.args.line c.requires (sym (counted g b) ∙ c.if-len-width.false ∙ c.width.ensures) (x.0 ∙ ap (map (λ x. x.now)) c.as_slice.ensures.value) x.1 (held c.if-not-next.false c.next.ensures) (refuted c.if-not-level.true c.level.ensures)
+    crossed (law g b) c.args.rows.now c.number-sheet.ensures c.line_after-line.ensures (cut g b) c.requires.some (sym (counted g b) ∙ c.if-len-width.false ∙ c.width.ensures) (x.0 ∙ ap (map (λ x. x.now)) c.as_slice.ensures.value) x.1 (held c.if-not-next.false c.next.ensures) (refuted c.if-not-level.true c.level.ensures)
 
 pub returns : goal.returns
 returns g c =
     let b = (goal.at.returns g c).After-width in
     let x = c.in-Some.ensures in
     subst (ReadsRow (g.L.Layout.sheet c.args.layout.now) c.args.rows.now c.args.rest.now c.in-Some.row) (sym (take_rest c.args.rest.now (c.find-end.result + 1)))
-    (reads (law g b) c.args.rows.now c.number-sheet.ensures (cut g b) c.args.line c.requires (sym (counted g b) ∙ c.if-len-width.false ∙ c.width.ensures) (x.0 ∙ ap (map (λ x. x.now)) c.as_slice.ensures.value) x.1 (held c.if-not-next.false c.next.ensures) (held c.if-not-level.false c.level.ensures))
+    (reads (law g b) c.args.rows.now c.number-sheet.ensures c.line_after-line.ensures (cut g b) c.requires.some (sym (counted g b) ∙ c.if-len-width.false ∙ c.width.ensures) (x.0 ∙ ap (map (λ x. x.now)) c.as_slice.ensures.value) x.1 (held c.if-not-next.false c.next.ensures) (held c.if-not-level.false c.level.ensures))

@@ -1,4 +1,4 @@
-use Rattle.std.proofs.Common.{Bool, ◌≡◌, ◌+◌, ◌-◌, ◌<◌, length, take, drop, vec_items, Decides, sym, refl, ap, subst, inl, arith, true-eqb}
+use Rattle.std.proofs.Common.{Bool, ◌≡◌, ◌+◌, ◌-◌, ◌<◌, length, take, drop, vec_items, Decides, sym, refl, ap, ◌∙◌, subst, inl, arith, true-eqb}
 use native.Mathlib.Nat.{sub-zero}
 use Rattle.std.specs.Str.{bytes_eq}
 use Rattle.std.proofs.lemmas.Slice.Eq.{bytes_eq-Decides}
@@ -35,19 +35,22 @@ returns-then-end-bytes g c _ =
 pub loop-rest-init : goal.loop-rest-init
 loop-rest-init g c =
     let l : c.find-end.result < length c.args.bytes.now = omega (arith, c.find-end.ensures.within) in
-    subst (λ t. Sofar (g.L.Layout.sheet c.args.layout.now) c.args.bytes.now (vec_items c.new-rows.result) t 1) (sym (take_rest c.args.bytes.now (c.find-end.result + 1)))
-    (subst (λ t. Sofar (g.L.Layout.sheet c.args.layout.now) c.args.bytes.now t (drop (c.find-end.result + 1) c.args.bytes.now) 1) (sym c.new-rows.ensures.items)
+    subst (λ t. Sofar (g.L.Layout.sheet c.args.layout.now) c.args.bytes.now (vec_items c.new-rows.result) t) (sym (take_rest c.args.bytes.now (c.find-end.result + 1)))
+    (subst (λ t. Sofar (g.L.Layout.sheet c.args.layout.now) c.args.bytes.now t (drop (c.find-end.result + 1) c.args.bytes.now)) (sym c.new-rows.ensures.items)
     (begun c.find-end.result (omega arith) l (c.find-end.ensures.found l) (let h = (goal.at.loop-rest-init g c).After-ne in agrees (same_names g h) c.ne.ensures c.if-ne.false (named g h))))
 
 pub returns-in_err-row : goal.returns-in_err-row
 returns-in_err-row g c = let p = err_from_is_err_and c.from_residual.result c.from_residual.ensures.1 in rw (p.1, p.2)
-    (passes_on _ c.loop-rest.invariant (subst (λ l. Told (LineFault (g.L.Layout.sheet c.args.layout.now) l c.loop-rest.rest.now c.loop-rest.line) c.in_err-row.field-0.0) c.as_slice.ensures.value c.in_err-row.ensures))
+    (passes_on _ c.loop-rest.invariant (subst (λ l. Told (LineFault (g.L.Layout.sheet c.args.layout.now) l c.loop-rest.rest.now (length l + 1)) c.in_err-row.field-0.0) c.as_slice.ensures.value c.in_err-row.ensures))
 
 pub returns-in_err-push : goal.returns-in_err-push
 returns-in_err-push g c = let p = err_from_is_err_and c.from_residual-in_err-push.result c.from_residual-in_err-push.ensures.1 in rw (p.1, p.2) (λ none. absurd (omega arith))
 
-pub overflow_add-line : goal.overflow_add-line
-overflow_add-line g c = omega (arith, counts c.loop-rest.invariant)
+pub read_line-requires-clause-few : goal.read_line-requires-clause-few
+read_line-requires-clause-few g c = subst (λ l. length l < 65536) (sym c.as_slice.ensures.value) (counts c.loop-rest.invariant)
+
+pub line_after-line-requires : goal.line_after-line-requires
+line_after-line-requires g c = subst (λ l. length l < 65536) (sym c.as_slice-then-not-whole.ensures.value) (counts c.loop-rest.invariant)
 
 pub loop-rest-smaller : goal.loop-rest-smaller
 loop-rest-smaller g c = shrinks c.in_ok-row.ensures
@@ -60,7 +63,7 @@ loop-rest-preserved g c =
 
 pub returns-then-not-whole : goal.returns-then-not-whole
 returns-then-not-whole g c _ =
-    short_of c.number-sheet.ensures c.loop-rest.invariant (true-eqb _ 0 c.loop-rest-test.ensures)
+    short_of c.number-sheet.ensures (c.line_after-line.ensures ∙ ap (λ l. length l + 1) c.as_slice-then-not-whole.ensures.value) c.loop-rest.invariant (true-eqb _ 0 c.loop-rest-test.ensures)
     (refuted c.if-not-whole.true (subst (λ l. Decides c.whole.result ((g.L.Layout.sheet c.args.layout.now).Whole l)) c.as_slice-2.ensures.value c.whole.ensures))
 
 pub returns : goal.returns

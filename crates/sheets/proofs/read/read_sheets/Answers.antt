@@ -23,7 +23,7 @@ returns-in_err-demands c =
     rw (p.1, p.2) (λ h. at_demands _ _ _ _ (vec_items c.in_ok-pins.pins) c.in_ok-pins.ensures (vec_items c.in_ok-modes.modes) c.units_of.result (c.units_of.ensures ∙ ap unit_count c.deref.ensures.value) c.in_ok-modes.ensures (vec_items c.in_ok-bounds.bounds) (beside _ (Ok (vec_items c.in_ok-bounds.bounds)) c.deref-2.ensures.value c.deref-3.ensures.value c.in_ok-bounds.ensures) _ (c.in_err-demands.ensures h))
 
 pub invariant_of-result : goal.invariant_of-result
-invariant_of-result c = record { kept = ∣ all_kept _ _ _ c.args.demands.now (vec_items c.in_ok-pins.pins) c.in_ok-pins.ensures (vec_items c.in_ok-modes.modes) c.units_of.result (c.units_of.ensures ∙ ap unit_count c.deref.ensures.value) c.in_ok-modes.ensures (vec_items c.in_ok-bounds.bounds) (beside _ (Ok (vec_items c.in_ok-bounds.bounds)) c.deref-2.ensures.value c.deref-3.ensures.value c.in_ok-bounds.ensures) (vec_items c.in_ok-demands.demands) c.in_ok-demands.ensures ∣₁ }
+invariant_of-result c = record { kept = ∣ all_kept _ _ _ c.args.four.demands.now (vec_items c.in_ok-pins.pins) c.in_ok-pins.ensures (vec_items c.in_ok-modes.modes) c.units_of.result (c.units_of.ensures ∙ ap unit_count c.deref.ensures.value) c.in_ok-modes.ensures (vec_items c.in_ok-bounds.bounds) (beside _ (Ok (vec_items c.in_ok-bounds.bounds)) c.deref-2.ensures.value c.deref-3.ensures.value c.in_ok-bounds.ensures) (vec_items c.in_ok-demands.demands) c.in_ok-demands.ensures ∣₁ }
 
 pub returns : goal.returns
 returns c = all_read _ _ _ _ (vec_items c.in_ok-pins.pins) c.in_ok-pins.ensures (vec_items c.in_ok-modes.modes) c.units_of.result (c.units_of.ensures ∙ ap unit_count c.deref.ensures.value) c.in_ok-modes.ensures (vec_items c.in_ok-bounds.bounds) (beside _ (Ok (vec_items c.in_ok-bounds.bounds)) c.deref-2.ensures.value c.deref-3.ensures.value c.in_ok-bounds.ensures) (vec_items c.in_ok-demands.demands) c.in_ok-demands.ensures
