@@ -2,7 +2,7 @@
 #![tactic(auto)]
 
 use anyhow::anyhow;
-use listings::report_on;
+use listings::{Report, report_on};
 use std::io;
 use std::io::Read;
 
@@ -28,17 +28,16 @@ fn main(rt: HostRuntime) -> anyhow::Result<()> {
     let input = read_input(&rt)?;
     match report_on(rt.alloc(), &input) {
         Ok(report) => {
-            let text = report.text;
-            print!(rt; "{text}")?;
-            if report.refused {
-                return Err(anyhow!("refused"));
+            print!(rt; "{report}")?;
+            match report {
+                Report::Listing(_) => Ok(()),
+                Report::Refusal(_) => Err(anyhow!("refused")),
             }
         }
         Err(_) => {
             // No memory for the text of the refusal.
             println!(rt; "refusal,sheet,line\n0,0,0")?;
-            return Err(anyhow!("out of memory"));
+            Err(anyhow!("out of memory"))
         }
     }
-    Ok(())
 }

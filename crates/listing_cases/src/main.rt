@@ -1,6 +1,7 @@
 // Runs many inputs, each between percent signs after its name, and prints what is written out for each.
 #![tactic(auto)]
 
+use faults::Fault;
 use listings::report_on;
 use sheets::read_demands;
 use std::io::{Read, Write};
@@ -12,8 +13,7 @@ fn show(rt: &HostRuntime, name: &[u8], input: &[u8]) -> anyhow::Result<()> {
     rt.stdout().write_all(name)?;
     println!(rt; "")?;
     let report = report_on(rt.alloc(), input)?;
-    let text = report.text;
-    print!(rt; "{text}")?;
+    print!(rt; "{report}")?;
     Ok(())
 }
 
@@ -23,10 +23,8 @@ fn show_long_sheet(rt: &HostRuntime, length: usize) -> anyhow::Result<()> {
     match read_demands(rt.alloc(), &bytes) {
         Ok(_) => println!(rt; "{length} bytes: read")?,
         Err(fault) => {
-            let number = fault.number();
-            let sheet = fault.sheet();
-            let line = fault.line();
-            println!(rt; "{length} bytes: {number},{sheet},{line}")?;
+            let refusal = fault.refusal();
+            println!(rt; "{length} bytes: {refusal}")?;
         }
     }
     Ok(())

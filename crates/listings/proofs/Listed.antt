@@ -16,7 +16,8 @@ use Rattle.settling.specs.Settling.{Settles}
 use Rattle.settling.proofs.Once.{settled_once}
 use Rattle.faults.specs.declared.listing.ListingFault.{ListingFault}
 use Rattle.faults.specs.declared.listing.ListingFault.TheVariants.{Input, Parts as Few, Platform, Settle, Memory}
-use Rattle.listings.specs.Inputs.{Four, Cuts, Cutting}
+use Rattle.sheets.specs.Fours.{Four}
+use Rattle.listings.specs.Inputs.{Cuts, Cutting}
 use Rattle.listings.specs.Texts.{settled_text}
 use Rattle.listings.specs.Listings.{as_is, ListsAsked, Lists}
 

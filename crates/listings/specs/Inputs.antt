@@ -1,15 +1,9 @@
 -- How the input is cut into the four sheets. Assumes nothing.
 use Rattle.std.specs.Prelude.{ℕ, ◌<◌, ◌≤◌, List, length, Ok, Err, Result}
 use Rattle.text.specs.Written.{Parts}
+use Rattle.sheets.specs.Fours.{Four}
 use Rattle.faults.specs.declared.listing.ListingFault.{ListingFault}
 use Rattle.faults.specs.declared.listing.ListingFault.TheVariants.{Input, Parts as Few, Platform, Settle, Memory}
-
--- the bytes of the four sheets
-pub record Four : Type 0 where
-  pub pins : List ℕ
-  pub modes : List ℕ
-  pub bounds : List ℕ
-  pub demands : List ℕ
 
 -- the first three empty lines of the input stand between the four sheets
 pub record Cuts (input : List ℕ) (four : Four) : Type 0 where

@@ -2,4 +2,3 @@ pub mod Inputs
 pub mod Texts
 pub mod Listings
 pub mod Reports
-pub mod Parts

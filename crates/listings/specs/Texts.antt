@@ -1,7 +1,7 @@
 -- How a settled platform and a refusal are written out. Assumes nothing.
 use Rattle.std.specs.Prelude.{ℕ, List, [], ◌∷◌, ◌++◌, length, codes, decimal}
 use Rattle.std.specs.List.{range_with_len, flat_map}
-use Rattle.answers.specs.Refusals.{Refusal}
+use Rattle.answers.specs.declared.refusal.Refusal.{Refusal}
 use Rattle.sheet.specs.Sheets.{line}
 use Rattle.platform.specs.declared.parts.Bounds.{Bounds}
 use Rattle.platform.specs.Units.{bounds_at, value_of}

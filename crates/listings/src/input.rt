@@ -1,12 +1,11 @@
 // Cuts the input into the four sheets.
 ghost use Rattle.std.specs.Prelude.{Ok, Err, MatchResult};
+ghost use Rattle.sheets.specs.Fours.{four_of};
 ghost use Rattle.listings.specs.Inputs.{Cutting};
-ghost use Rattle.listings.specs.Parts.{four_of};
 
-use crate::four::FourSheets;
 use faults::ListingFault;
-
-const LONGEST: usize = 65535;
+use sheet::LONGEST;
+use sheets::FourSheets;
 
 // The four sheets between the input's first three empty lines.
 pub(crate) fn cut<'a>(input: &'a [u8]) -> Result<FourSheets<'a>, ListingFault>
@@ -15,15 +14,9 @@ pub(crate) fn cut<'a>(input: &'a [u8]) -> Result<FourSheets<'a>, ListingFault>
     if input.len() > LONGEST {
         return Err(ListingFault::Input);
     }
-    let Some((pins, rest)) = text::parts(input) else {
-        return Err(ListingFault::Parts);
-    };
-    let Some((modes, rest)) = text::parts(rest) else {
-        return Err(ListingFault::Parts);
-    };
-    let Some((bounds, demands)) = text::parts(rest) else {
-        return Err(ListingFault::Parts);
-    };
+    let (pins, rest) = text::parts(input).ok_or(ListingFault::Parts)?;
+    let (modes, rest) = text::parts(rest).ok_or(ListingFault::Parts)?;
+    let (bounds, demands) = text::parts(rest).ok_or(ListingFault::Parts)?;
     Ok(FourSheets {
         pins,
         modes,

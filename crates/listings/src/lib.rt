@@ -1,7 +1,6 @@
 // Listings: from the bytes of the input to the bytes of the output.
 #![tactic(auto)]
 
-mod four;
 mod input;
 pub mod list;
 pub mod report;

@@ -21,8 +21,8 @@ fn list_inquiry(heap: Global, inquiry: &Inquiry) -> Result<String, ListingFault>
     let draw: Settled<Draw> = settle(platform, demands)?;
     let heat: Settled<HeatThenDraw> = settle(platform, demands)?;
     let mut out = String::new(heap);
-    write_choice(&mut out, platform, draw.modes, draw.windows, draw.targets)?;
-    write_choice(&mut out, platform, heat.modes, heat.windows, heat.targets)?;
+    write_choice(&mut out, platform, &draw)?;
+    write_choice(&mut out, platform, &heat)?;
     Ok(out)
 }
 
@@ -31,7 +31,7 @@ pub fn listing_of(heap: Global, input: &[u8]) -> Result<String, ListingFault>
     ensures { Exactly string_bytes listing_refusal (Lists input.now) result }
 {
     let four = cut(input)?;
-    let inquiry = read_inquiry(heap, four.pins, four.modes, four.bounds, four.demands)?;
+    let inquiry = read_inquiry(heap, four)?;
     let text = list_inquiry(heap, &inquiry)?;
     Ok(text)
 }

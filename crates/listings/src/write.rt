@@ -1,92 +1,78 @@
 // Writes out a settled platform, or a refusal.
 ghost use Rattle.std.specs.Prelude.{◌≡◌, ◌≤◌, ◌++◌, IfOk, string_bytes, OnOk};
 ghost use Rattle.std.specs.List.{range_with_len, flat_map};
-ghost use Rattle.answers.specs.Refusals.{refusal};
 ghost use Rattle.platform.specs.Making.{model_of};
 ghost use Rattle.faults.specs.Numbers.{listing_refusal};
-ghost use Rattle.listings.specs.Texts.{total_text, unit_line, units_text, rail_line, rails_text, choice_text, refusal_text};
+ghost use Rattle.listings.specs.Texts.{total_text, unit_line, units_text, rail_line, rails_text, settled_text, refusal_text};
 
-use faults::ListingFault;
-use platform::{Bounds, Mix, Platform};
-use settling::{HeatThenDraw, cost_of};
+use faults::{Fault, ListingFault};
+use platform::{Bounds, Platform};
+use settling::{HeatThenDraw, Settled, cost_of};
 use std::alloc::Global;
 use std::fmt;
 
 fn write_total(out: &mut String, total: HeatThenDraw) -> Result<(), fmt::Error>
     ensures { OnOk result (string_bytes out.new ≡ string_bytes out.old ++ total_text total) }
 {
-    let draw = total.draw;
-    let heat = total.heat;
+    let HeatThenDraw { heat, draw } = total;
     writeln!(out, "draw,heat")?;
     writeln!(out, "{draw},{heat}")?;
     Ok(())
 }
 
-fn unit_lines(out: &mut String, modes: [u8; 24], units: usize) -> Result<(), fmt::Error>
+// A line for each of the first units.
+fn unit_lines<C>(out: &mut String, choice: &Settled<C>, units: usize) -> Result<(), fmt::Error>
     requires { units ≤ 24 }
-    ensures { OnOk result (string_bytes out.new ≡ string_bytes out.old ++ flat_map (unit_line modes) (range_with_len 0 units)) }
+    ensures { OnOk result (string_bytes out.new ≡ string_bytes out.old ++ flat_map (unit_line choice.now.modes) (range_with_len 0 units)) }
 {
-    for unit in 0..units {
-        let mode = modes[unit];
+    for (unit, mode) in choice.modes[..units].iter().enumerate() {
         writeln!(out, "{unit},{mode}")?;
     }
     Ok(())
 }
 
-fn write_units(out: &mut String, modes: [u8; 24], units: usize) -> Result<(), fmt::Error>
+fn write_units<C>(out: &mut String, choice: &Settled<C>, units: usize) -> Result<(), fmt::Error>
     requires { units ≤ 24 }
-    ensures { OnOk result (string_bytes out.new ≡ string_bytes out.old ++ units_text modes units) }
+    ensures { OnOk result (string_bytes out.new ≡ string_bytes out.old ++ units_text choice.now.modes units) }
 {
     writeln!(out, "unit,mode")?;
-    unit_lines(out, modes, units)?;
+    unit_lines(out, choice, units)?;
     Ok(())
 }
 
-fn rail_lines(
-    out: &mut String,
-    windows: [Bounds; 24],
-    targets: Mix,
-    rails: usize,
-) -> Result<(), fmt::Error>
+// A line for each of the first rails. Units and rails have no function in common here: a line of each has columns of its own.
+fn rail_lines<C>(out: &mut String, choice: &Settled<C>, rails: usize) -> Result<(), fmt::Error>
     requires { rails ≤ 24 }
-    ensures { OnOk result (string_bytes out.new ≡ string_bytes out.old ++ flat_map (rail_line windows targets.values) (range_with_len 0 rails)) }
+    ensures { OnOk result (string_bytes out.new ≡ string_bytes out.old ++ flat_map (rail_line choice.now.windows choice.now.targets.values) (range_with_len 0 rails)) }
 {
-    for rail in 0..rails {
-        let Bounds { low, high } = windows[rail];
-        let target = targets.values[rail];
+    for (rail, window) in choice.windows[..rails].iter().enumerate() {
+        let Bounds { low, high } = *window;
+        let target = choice.targets.values[rail];
         writeln!(out, "{rail},{low},{high},{target}")?;
     }
     Ok(())
 }
 
-fn write_rails(
-    out: &mut String,
-    windows: [Bounds; 24],
-    targets: Mix,
-    rails: usize,
-) -> Result<(), fmt::Error>
+fn write_rails<C>(out: &mut String, choice: &Settled<C>, rails: usize) -> Result<(), fmt::Error>
     requires { rails ≤ 24 }
-    ensures { OnOk result (string_bytes out.new ≡ string_bytes out.old ++ rails_text windows targets.values rails) }
+    ensures { OnOk result (string_bytes out.new ≡ string_bytes out.old ++ rails_text choice.now.windows choice.now.targets.values rails) }
 {
     writeln!(out, "rail,low,high,target")?;
-    rail_lines(out, windows, targets, rails)?;
+    rail_lines(out, choice, rails)?;
     Ok(())
 }
 
 // Adds the listing of one choice.
-pub(crate) fn write_choice(
+pub(crate) fn write_choice<C>(
     out: &mut String,
     platform: &Platform,
-    modes: [u8; 24],
-    windows: [Bounds; 24],
-    targets: Mix,
+    choice: &Settled<C>,
 ) -> Result<(), fmt::Error>
-    ensures { OnOk result (string_bytes out.new ≡ string_bytes out.old ++ choice_text (model_of platform.now) modes windows targets.values) }
+    ensures { OnOk result (string_bytes out.new ≡ string_bytes out.old ++ settled_text (model_of platform.now) choice.now) }
 {
-    let total: HeatThenDraw = cost_of(platform, modes);
-    write_total(out, total)?;
-    write_units(out, modes, platform.units().len())?;
-    write_rails(out, windows, targets, platform.rails() as usize)?;
+    write_total(out, cost_of(platform, choice.modes))?;
+    write_units(out, choice, platform.units().len())?;
+    write_rails(out, choice, platform.rails() as usize)?;
     Ok(())
 }
 
@@ -94,11 +80,9 @@ pub(crate) fn write_choice(
 pub(crate) fn refusal_text(heap: Global, fault: ListingFault) -> Result<String, fmt::Error>
     ensures { IfOk result (λ t. string_bytes t ≡ refusal_text (listing_refusal fault)) }
 {
-    let number = fault.number();
-    let sheet = fault.sheet();
-    let line = fault.line();
+    let refusal = fault.refusal();
     let mut out = String::new(heap);
     writeln!(out, "refusal,sheet,line")?;
-    writeln!(out, "{number},{sheet},{line}")?;
+    writeln!(out, "{refusal}")?;
     Ok(out)
 }

@@ -1,7 +1,7 @@
 use Rattle.std.proofs.Common.{string_bytes}
 use Rattle.std.proofs.lemmas.Result.{err_from_is_err_and}
 use Rattle.platform.specs.Inquiries.{inquiry_of}
-use Rattle.listings.specs.Parts.{four_of}
+use Rattle.sheets.specs.Fours.{four_of}
 use Rattle.listings.proofs.Listed.{at_input, at_inquiry, at_asked, listed}
 use Rattle.listings.proofs.list.listing_of.Goals as goal
 

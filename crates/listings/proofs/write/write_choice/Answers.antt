@@ -8,15 +8,16 @@ use Rattle.listings.proofs.Lines.{both}
 use Rattle.listings.proofs.write.write_choice.Goals as goal
 
 pub write_units-requires : goal.write_units-requires
-write_units-requires c = omega (arith, c.units.ensures.sound.units_counted.1, as_many c.units.result.now)
+write_units-requires g c = omega (arith, c.units.ensures.sound.units_counted.1, as_many c.units.result.now)
 
 pub returns : goal.returns
-returns c =
+returns g c =
     let p = c.args.platform.now in
-    let units = units_text c.args.modes (length (units_of p)) in
-    let rails = rails_text c.args.windows c.args.targets.values p.rails in
-    both (string_bytes c.args.out.now) (total_text (cost heat_toll (units_of p) c.args.modes)) (units ++ rails)
-    (c.in_ok-write_total.ensures ∙ ap (λ t. string_bytes c.args.out.now ++ total_text t) c.cost_of-total.ensures)
+    let s = c.args.choice.now in
+    let units = units_text s.modes (length (units_of p)) in
+    let rails = rails_text s.windows s.targets.values p.rails in
+    both (string_bytes c.args.out.now) (total_text (cost heat_toll (units_of p) s.modes)) (units ++ rails)
+    (c.in_ok-write_total.ensures ∙ ap (λ t. string_bytes c.args.out.now ++ total_text t) c.cost_of.ensures)
     (both (string_bytes c.write_total.new.out) units rails
-    (c.in_ok-write_units.ensures ∙ ap (λ n. string_bytes c.write_total.new.out ++ units_text c.args.modes n) (ap length c.units.ensures.value ∙ sym (as_many (vec_items p.units))))
-    (c.in_ok-write_rails.ensures ∙ ap (λ n. string_bytes c.write_units.new.out ++ rails_text c.args.windows c.args.targets.values n) c.rails.ensures))
+    (c.in_ok-write_units.ensures ∙ ap (λ n. string_bytes c.write_total.new.out ++ units_text s.modes n) (ap length c.units.ensures.value ∙ sym (as_many (vec_items p.units))))
+    (c.in_ok-write_rails.ensures ∙ ap (λ n. string_bytes c.write_units.new.out ++ rails_text s.windows s.targets.values n) c.rails.ensures))

@@ -6,4 +6,4 @@ use Rattle.listings.proofs.Lines.{both}
 use Rattle.listings.proofs.write.write_units.Goals as goal
 
 pub returns : goal.returns
-returns c = both (string_bytes c.args.out.now) (line (codes "unit" ∷ codes "mode" ∷ [])) (flat_map (unit_line c.args.modes) (range_with_len 0 c.args.units)) c.in_ok-writeln.ensures.bytes c.in_ok-unit_lines.ensures
+returns g c = both (string_bytes c.args.out.now) (line (codes "unit" ∷ codes "mode" ∷ [])) (flat_map (unit_line c.args.choice.now.modes) (range_with_len 0 c.args.units)) c.in_ok-writeln.ensures.bytes c.in_ok-unit_lines.ensures
