@@ -9,8 +9,7 @@ pub trait Board {
     // The most that a rail of this make may be sent to, in mV.
     const CEILING: u16;
 
-    // The ceiling as clauses name it; `top` ties the two.
-    ghost ceiling: { ℕ };
+    ghost CEILING: { ℕ };
 
     ghost rails: { Self → ℕ };
 
@@ -32,10 +31,6 @@ pub trait Board {
 
     ghost polls: { Self → ℕ → Bool → Self → Type 0 };
 
-    // The make's ceiling.
-    fn top() -> u16
-        ensures { result ≡ ceiling };
-
     // The number of rails.
     fn count(&self) -> u8
         ensures { result ≡ rails self.now };
@@ -43,7 +38,7 @@ pub trait Board {
     // Sends a rail towards a goal in mV.
     fn start(&mut self, rail: u8, goal: u16) -> Result<(), BoardFault>
         ensures kept { (rails self.new ≡ rails self.old) × (patience self.new ≡ patience self.old) }
-        ensures granted { elim result [ Ok _ ↦ (rail < rails self.old) × (goal ≤ ceiling) | Err e ↦ (number_of e ≡ 16) × (self.new ≡ self.old) × (rail < rails self.old → goal ≤ ceiling → ⊥) ] }
+        ensures granted { elim result [ Ok _ ↦ (rail < rails self.old) × (goal ≤ CEILING) | Err e ↦ (number_of e ≡ 16) × (self.new ≡ self.old) × (rail < rails self.old → goal ≤ CEILING → ⊥) ] }
         ensures meaning { elim result [ Ok _ ↦ Started (rails self.old) (patience self.old) (meant value target pending credit self.old) rail goal (meant value target pending credit self.new) | Err _ ↦ Unit {0} ] }
         ensures own { elim result [ Ok _ ↦ starts self.old rail goal self.new | Err _ ↦ Unit {0} ] };
 

@@ -64,7 +64,7 @@ fn counted(yes: bool, need: u8, run: u8) -> u8
 impl<B: Board> Board for Steady<B> {
     const CEILING: u16 = B::CEILING;
 
-    ghost ceiling = { B.Board.ceiling };
+    ghost CEILING = { B.Board.CEILING };
 
     ghost rails = { λ s. B.Board.rails s.below };
 
@@ -85,10 +85,6 @@ impl<B: Board> Board for Steady<B> {
     ghost counted = { Prim.search rules };
 
     ghost stands = { Prim.search rules };
-
-    fn top() -> u16 {
-        B::top()
-    }
 
     fn count(&self) -> u8 {
         self.below.count()

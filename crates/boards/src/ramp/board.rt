@@ -46,7 +46,7 @@ impl RampBench {
 impl Board for RampBench {
     const CEILING: u16 = 65535;
 
-    ghost ceiling = { 65535 };
+    ghost CEILING = { 65535 };
 
     ghost rails = { λ b. b.count };
 
@@ -67,10 +67,6 @@ impl Board for RampBench {
     ghost counted = { Prim.search rules };
 
     ghost stands = { Prim.search rules };
-
-    fn top() -> u16 {
-        Self::CEILING
-    }
 
     fn count(&self) -> u8 {
         self.count

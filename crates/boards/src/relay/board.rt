@@ -10,7 +10,7 @@ use crate::relay::{RelayBoard, RelayRail};
 impl Board for RelayBoard {
     const CEILING: u16 = 57000;
 
-    ghost ceiling = { 57000 };
+    ghost CEILING = { 57000 };
 
     ghost rails = { λ b. b.count };
 
@@ -31,10 +31,6 @@ impl Board for RelayBoard {
     ghost counted = { Prim.search rules };
 
     ghost stands = { Prim.search rules };
-
-    fn top() -> u16 {
-        Self::CEILING
-    }
 
     fn count(&self) -> u8 {
         self.count
