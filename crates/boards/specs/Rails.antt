@@ -9,10 +9,6 @@ pub record RailMeaning : Type 0 where
   pub pending : Bool
   pub credit : ℕ
 
--- the meaning of a rail x, by what its make gives
-abbrev pub rail_meant : {R : Type 0} → (R → ℕ) → (R → ℕ) → (R → Bool) → (R → ℕ) → R → RailMeaning
-rail_meant value target pending credit x = record { value = value x; target = target x; pending = pending x; credit = credit x }
-
 -- what holds of a rail at all times: at rest it is at its target, and its credit is not above the patience p
 pub record RailStands (p : ℕ) (x : RailMeaning) : Type 0 where
   pub settled : x.pending ≡ false → x.value ≡ x.target

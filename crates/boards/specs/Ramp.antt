@@ -4,6 +4,7 @@ use Rattle.std.proofs.Common.{lit≤}
 use Rattle.boards.specs.declared.bench.Bench.{Bench}
 use Rattle.boards.specs.declared.ramp.RampRail.{RampRail}
 use Rattle.boards.specs.Benches.{row, BenchStarted, BenchPolled}
+use Rattle.boards.specs.Rails.{RailMeaning}
 
 abbrev pub RampBench : Type 0
 RampBench = Bench RampRail
@@ -26,6 +27,9 @@ apart v t = max v t - min v t
 -- how often a poll of the rail may still be answered no: each takes it 1 mV nearer at least, and the last is a yes
 abbrev pub credit_of : RampRail → ℕ
 credit_of x = apart x.value (target_of x) - 1
+
+abbrev pub meaning_of : RampRail → RailMeaning
+meaning_of x = record { value = x.value; target = target_of x; pending = is_pending x; credit = credit_of x }
 
 -- what the board has of rail i
 abbrev pub rail_at : RampBench → ℕ → RampRail

@@ -1,11 +1,10 @@
 -- The relay board: its meaning, its making, and what a start and a poll do. Assumes nothing.
-use Rattle.std.specs.Prelude.{◌≡◌, ℕ, ◌-◌, Bool, true, false, cond, not, ◌==◌, Option, Some, None, is_some}
+use Rattle.std.specs.Prelude.{◌≡◌, ℕ, ◌-◌, Bool, true, false, cond, not, ◌==◌, None, is_some, unwrap_or, option_map}
 use Rattle.std.proofs.Common.{lit≤}
 use Rattle.boards.specs.declared.bench.Bench.{Bench}
-use Rattle.boards.specs.declared.relay.Going.{Going}
 use Rattle.boards.specs.declared.relay.RelayRail.{RelayRail}
 use Rattle.boards.specs.Benches.{row, BenchStarted, BenchPolled}
-use Rattle.boards.specs.Rails.{Same}
+use Rattle.boards.specs.Rails.{RailMeaning, Same}
 
 abbrev pub RelayBoard : Type 0
 RelayBoard = Bench RelayRail
@@ -14,25 +13,19 @@ RelayBoard = Bench RelayRail
 abbrev pub blank : RelayRail
 blank = record { value = 0; delay = 0; going = None; delayed = lit≤ tt; low = lit≤ tt }
 
--- where a rail that rests at v, or is going, is to be
-abbrev pub goal_of : ℕ → Option Going → ℕ
-goal_of v None = v
-goal_of v (Some g) = g.target
-
--- how many no answers are left of it
-abbrev pub noes_of : Option Going → ℕ
-noes_of None = 0
-noes_of (Some g) = g.left
-
+-- where a rail is to be: where it is going, or where it rests
 abbrev pub target_of : RelayRail → ℕ
-target_of x = goal_of x.value x.going
+target_of x = unwrap_or (option_map (λ g. g.target) x.going) x.value
 
--- the rail's credit
+-- how many no answers are left: the rail's credit
 abbrev pub left_of : RelayRail → ℕ
-left_of x = noes_of x.going
+left_of x = unwrap_or (option_map (λ g. g.left) x.going) 0
 
 abbrev pub is_pending : RelayRail → Bool
 is_pending x = is_some x.going
+
+abbrev pub meaning_of : RelayRail → RailMeaning
+meaning_of x = record { value = x.value; target = target_of x; pending = is_pending x; credit = left_of x }
 
 -- what the board has of rail i
 abbrev pub rail_at : RelayBoard → ℕ → RelayRail
@@ -50,7 +43,6 @@ delays b i = (rail_at b i).delay
 abbrev pub pendings : RelayBoard → ℕ → Bool
 pendings b i = is_pending (rail_at b i)
 
--- how many no answers are left: the rail's credit
 abbrev pub lefts : RelayBoard → ℕ → ℕ
 lefts b i = left_of (rail_at b i)
 

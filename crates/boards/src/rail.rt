@@ -1,7 +1,7 @@
 // The rail trait: what every rail of a bench means, whatever its make, and what its own make does.
 ghost use Rattle.std.specs.Prelude.{◌≡◌, ℕ, ◌≤◌, Bool, MatchResult};
 ghost use Rattle.boards.specs.Faults.{Refused};
-ghost use Rattle.boards.specs.Rails.{rail_meant, RailStands, RailStarted, RailPassed, RailPolled};
+ghost use Rattle.boards.specs.Rails.{RailMeaning, RailStands, RailStarted, RailPassed, RailPolled};
 
 use crate::fault::BoardFault;
 
@@ -17,13 +17,8 @@ pub trait Rail: Copy {
     // The most that its credit may be.
     ghost patience: { ℕ };
 
-    ghost value: { Self → ℕ };
-
-    ghost target: { Self → ℕ };
-
-    ghost pending: { Self → Bool };
-
-    ghost credit: { Self → ℕ };
+    // What a board means of it.
+    ghost meaning: { Self → RailMeaning };
 
     // What no rail has, and what is set for none.
     ghost blank: { Self };
@@ -48,21 +43,21 @@ pub trait Rail: Copy {
 
     // The rail, sent towards a goal in mV.
     fn start(self, goal: u16) -> Result<Self, BoardFault>
-        ensures { let in_range = goal ≤ CEILING in MatchResult result (λ x. in_range × RailStarted patience goal (rail_meant value target pending credit self) (rail_meant value target pending credit x) × sent goal self x) (Refused in_range) };
+        ensures { let in_range = goal ≤ CEILING in MatchResult result (λ x. in_range × RailStarted patience goal (meaning self) (meaning x) × sent goal self x) (Refused in_range) };
 
     // The rail after a poll of it, and whether it has arrived.
     fn poll(self) -> (Self, bool)
-        ensures meaning { RailPolled result.1 (rail_meant value target pending credit self) (rail_meant value target pending credit result.0) }
+        ensures meaning { RailPolled result.1 (meaning self) (meaning result.0) }
         ensures own { asked result.1 self result.0 };
 
     // The rail after a poll of another one.
     fn pass(self) -> Self
-        ensures meaning { RailPassed (rail_meant value target pending credit self) (rail_meant value target pending credit result) }
+        ensures meaning { RailPassed (meaning self) (meaning result) }
         ensures own { passed self result };
 
     // Its value in mV, and whether it is pending.
     fn look(self) -> (u16, bool)
-        ensures { (result.0 ≡ value self) × (result.1 ≡ pending self) };
+        ensures { (result.0 ≡ (meaning self).value) × (result.1 ≡ (meaning self).pending) };
 
-    ghost stands: { (x : Self) → RailStands patience (rail_meant value target pending credit x) };
+    ghost stands: { (x : Self) → RailStands patience (meaning x) };
 }

@@ -39,7 +39,7 @@ impl RampRail {
 
 impl Rail for RampRail {
     ghost use Rattle.boards.specs.Making.{Within};
-    ghost use Rattle.boards.specs.Ramp.{target_of, is_pending, credit_of, blank, Rests, Sent, Asked, Moved};
+    ghost use Rattle.boards.specs.Ramp.{meaning_of, blank, Rests, Sent, Asked, Moved};
     ghost use Rattle.std.proofs.Common.{rules};
 
     const CEILING: u16 = 65535;
@@ -51,13 +51,7 @@ impl Rail for RampRail {
 
     ghost patience = { 65534 };
 
-    ghost value = { λ x. x.value };
-
-    ghost target = { target_of };
-
-    ghost pending = { is_pending };
-
-    ghost credit = { credit_of };
+    ghost meaning = { meaning_of };
 
     ghost blank = { blank };
 
@@ -86,33 +80,23 @@ impl Rail for RampRail {
         })
     }
 
-    fn start(self, goal: u16) -> Result<RampRail, BoardFault> {
-        Ok(RampRail {
-            value: self.value,
-            goal: Some(goal),
-            rate: self.rate,
-        })
+    fn start(mut self, goal: u16) -> Result<RampRail, BoardFault> {
+        self.goal = Some(goal);
+        Ok(self)
     }
 
     fn poll(self) -> (RampRail, bool) {
-        let moved = self.pass();
-        if moved.value != moved.target() {
-            return (moved, false);
+        let mut moved = self.pass();
+        let arrived = moved.value == moved.target();
+        if arrived {
+            moved.goal = None;
         }
-        let rested = RampRail {
-            value: moved.value,
-            goal: None,
-            rate: moved.rate,
-        };
-        (rested, true)
+        (moved, arrived)
     }
 
-    fn pass(self) -> RampRail {
-        RampRail {
-            value: self.stepped(),
-            goal: self.goal,
-            rate: self.rate,
-        }
+    fn pass(mut self) -> RampRail {
+        self.value = self.stepped();
+        self
     }
 
     fn look(self) -> (u16, bool) {

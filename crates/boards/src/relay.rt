@@ -29,7 +29,7 @@ pub struct RelayRail {
 impl Rail for RelayRail {
     ghost use Rattle.boards.specs.Making.{Within};
     ghost use Rattle.boards.specs.Rails.{Same};
-    ghost use Rattle.boards.specs.Relay.{target_of, is_pending, left_of, blank, Rests, Sent, Asked};
+    ghost use Rattle.boards.specs.Relay.{meaning_of, blank, Rests, Sent, Asked};
     ghost use Rattle.std.proofs.Common.{rules};
 
     const CEILING: u16 = 57000;
@@ -41,13 +41,7 @@ impl Rail for RelayRail {
 
     ghost patience = { 255 };
 
-    ghost value = { λ x. x.value };
-
-    ghost target = { target_of };
-
-    ghost pending = { is_pending };
-
-    ghost credit = { left_of };
+    ghost meaning = { meaning_of };
 
     ghost blank = { blank };
 
@@ -76,43 +70,31 @@ impl Rail for RelayRail {
         })
     }
 
-    fn start(self, goal: u16) -> Result<RelayRail, BoardFault> {
+    fn start(mut self, goal: u16) -> Result<RelayRail, BoardFault> {
         if goal > Self::CEILING {
             return Err(BoardFault::OutOfRange);
         }
-        let going = Going {
+        self.going = Some(Going {
             target: goal,
             left: self.delay,
-        };
-        Ok(RelayRail {
-            value: self.value,
-            delay: self.delay,
-            going: Some(going),
-        })
+        });
+        Ok(self)
     }
 
-    fn poll(self) -> (RelayRail, bool) {
+    fn poll(mut self) -> (RelayRail, bool) {
         let Some(Going { target, left }) = self.going else {
             return (self, true);
         };
         if left > 0 {
-            let going = Going {
+            self.going = Some(Going {
                 target,
                 left: left - 1,
-            };
-            let waiting = RelayRail {
-                value: self.value,
-                delay: self.delay,
-                going: Some(going),
-            };
-            return (waiting, false);
+            });
+            return (self, false);
         }
-        let rested = RelayRail {
-            value: target,
-            delay: self.delay,
-            going: None,
-        };
-        (rested, true)
+        self.value = target;
+        self.going = None;
+        (self, true)
     }
 
     fn pass(self) -> RelayRail {

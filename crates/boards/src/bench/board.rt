@@ -2,7 +2,7 @@
 ghost use Rattle.std.specs.Prelude.{◌≡◌, ℕ, ◌<◌, MatchResult};
 ghost use Rattle.boards.specs.Faults.{Refused};
 ghost use Rattle.boards.specs.Benches.{row, of_each, BenchStarted, BenchPolled};
-ghost use Rattle.boards.specs.Rails.{rail_meant, RailPassed};
+ghost use Rattle.boards.specs.Rails.{RailPassed};
 ghost use Rattle.std.proofs.Common.{rules};
 
 use crate::bench::Bench;
@@ -26,7 +26,7 @@ impl<R: Rail> Bench<R> {
     fn pass(&mut self)
         ensures count { self.new.count ≡ self.old.count }
         ensures own { (i : ℕ) → i < 24 → R.passed (row R.blank self.old i) (row R.blank self.new i) }
-        ensures meaning { (i : ℕ) → i < 24 → RailPassed (rail_meant R.value R.target R.pending R.credit (row R.blank self.old i)) (rail_meant R.value R.target R.pending R.credit (row R.blank self.new i)) }
+        ensures meaning { (i : ℕ) → i < 24 → RailPassed (R.meaning (row R.blank self.old i)) (R.meaning (row R.blank self.new i)) }
     {
         for rail in self.rails.iter_mut() {
             *rail = rail.pass();
@@ -43,13 +43,13 @@ impl<R: Rail> Board for Bench<R> {
 
     ghost patience = { λ _. R.Rail.patience };
 
-    ghost value = { of_each R.Rail.blank R.Rail.value };
+    ghost value = { of_each R.Rail.blank (λ x. (R.Rail.meaning x).value) };
 
-    ghost target = { of_each R.Rail.blank R.Rail.target };
+    ghost target = { of_each R.Rail.blank (λ x. (R.Rail.meaning x).target) };
 
-    ghost pending = { of_each R.Rail.blank R.Rail.pending };
+    ghost pending = { of_each R.Rail.blank (λ x. (R.Rail.meaning x).pending) };
 
-    ghost credit = { of_each R.Rail.blank R.Rail.credit };
+    ghost credit = { of_each R.Rail.blank (λ x. (R.Rail.meaning x).credit) };
 
     ghost starts = { BenchStarted R.Rail.blank R.Rail.sent };
 
