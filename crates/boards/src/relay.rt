@@ -9,7 +9,7 @@ pub type RelayBoard = Bench<RelayRail>;
 
 // Where a pending rail is to be, in mV, and how many no answers are left until it is there.
 #[derive(Clone, Copy)]
-pub struct Going {
+struct Going {
     target: u16,
     left: u8,
     ghost few: { left ≤ 255 },
