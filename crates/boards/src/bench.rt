@@ -4,7 +4,7 @@ pub mod make;
 
 ghost use Rattle.std.specs.Prelude.{◌≤◌};
 
-// Only the first `count` rails are read.
+// Only the first `count` rails are read. Fixed memory: a board has up to 24 rails, and is worked without a heap.
 #[derive(Drop)]
 pub struct Bench<R> {
     count: u8,

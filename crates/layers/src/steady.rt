@@ -8,7 +8,7 @@ ghost use Rattle.std.proofs.Common.{rules};
 use boards::{Board, BoardFault};
 use std::array;
 
-// `need` answers have to run; `run` has how many have, of each rail.
+// `need` answers have to run; `run` has how many have, of each rail. Fixed memory: as any board, it is worked without a heap.
 #[derive(Drop)]
 pub struct Steady<B> {
     below: B,
