@@ -1,6 +1,7 @@
 pub mod Faults
 pub mod Meaning
-pub mod Making
 pub mod Rails
+pub mod Making
+pub mod Benches
 pub mod Ramp
 pub mod Relay

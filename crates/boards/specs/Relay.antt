@@ -1,71 +1,80 @@
 -- The relay board: its meaning, its making, and what a start and a poll do. Assumes nothing.
-use Rattle.std.specs.Prelude.{◌≡◌, ℕ, ◌-◌, Bool, true, false, cond, not, List, ◌==◌, slice_index_or, refl}
+use Rattle.std.specs.Prelude.{◌≡◌, ℕ, ◌-◌, Bool, true, false, cond, not, ◌==◌, None, is_some, unwrap_or, option_map}
 use Rattle.std.proofs.Common.{lit≤}
-use Rattle.boards.specs.declared.relay.RelayBoard.{RelayBoard}
+use Rattle.boards.specs.declared.bench.Bench.{Bench}
 use Rattle.boards.specs.declared.relay.RelayRail.{RelayRail}
-use Rattle.boards.specs.Making.{AllRest}
-use Rattle.boards.specs.Rails.{Changed, Same}
+use Rattle.boards.specs.Benches.{row, BenchStarted, BenchPolled}
+use Rattle.boards.specs.Rails.{RailMeaning, Same}
+
+abbrev pub RelayBoard : Type 0
+RelayBoard = Bench RelayRail
 
 -- what no rail has
 abbrev pub blank : RelayRail
-blank = record { value = 0; target = 0; delay = 0; left = 0; pending = false; settled = λ _. (refl, refl); delayed = (lit≤ tt, lit≤ tt); low = (lit≤ tt, lit≤ tt) }
+blank = record { value = 0; delay = 0; going = None; delayed = lit≤ tt; low = lit≤ tt }
+
+-- where a rail is to be: where it is going, or where it rests
+abbrev pub target_of : RelayRail → ℕ
+target_of x = unwrap_or (option_map (λ g. g.target) x.going) x.value
+
+-- how many no answers are left: the rail's credit
+abbrev pub left_of : RelayRail → ℕ
+left_of x = unwrap_or (option_map (λ g. g.left) x.going) 0
+
+abbrev pub is_pending : RelayRail → Bool
+is_pending x = is_some x.going
+
+abbrev pub meaning_of : RelayRail → RailMeaning
+meaning_of x = record { value = x.value; target = target_of x; pending = is_pending x; credit = left_of x }
 
 -- what the board has of rail i
 abbrev pub rail_at : RelayBoard → ℕ → RelayRail
-rail_at b i = slice_index_or b.rails i blank
+rail_at b i = row blank b i
 
 abbrev pub values : RelayBoard → ℕ → ℕ
 values b i = (rail_at b i).value
 
 abbrev pub targets : RelayBoard → ℕ → ℕ
-targets b i = (rail_at b i).target
+targets b i = target_of (rail_at b i)
 
 abbrev pub delays : RelayBoard → ℕ → ℕ
 delays b i = (rail_at b i).delay
 
 abbrev pub pendings : RelayBoard → ℕ → Bool
-pendings b i = (rail_at b i).pending
+pendings b i = is_pending (rail_at b i)
 
--- how many no answers are left: the rail's credit
 abbrev pub lefts : RelayBoard → ℕ → ℕ
-lefts b i = (rail_at b i).left
+lefts b i = left_of (rail_at b i)
 
 -- a rail that is started towards t has as many no answers left as its delay says
 pub record Sent (t : ℕ) (x y : RelayRail) : Type 0 where
   pub value : y.value ≡ x.value
-  pub target : y.target ≡ t
+  pub target : target_of y ≡ t
   pub delay : y.delay ≡ x.delay
-  pub left : y.left ≡ x.delay
-  pub pending : y.pending ≡ true
+  pub left : left_of y ≡ x.delay
+  pub pending : is_pending y ≡ true
 
 -- the polled rail stays while a no is left, and else jumps to its target, with a yes
 pub record Asked (answer : Bool) (x y : RelayRail) : Type 0 where
-  pub over : answer ≡ (x.left == 0)
-  pub value : y.value ≡ cond answer x.target x.value
-  pub target : y.target ≡ x.target
+  pub over : answer ≡ (left_of x == 0)
+  pub value : y.value ≡ cond answer (target_of x) x.value
+  pub target : target_of y ≡ target_of x
   pub delay : y.delay ≡ x.delay
-  pub left : y.left ≡ x.left - 1
-  pub pending : y.pending ≡ not answer
+  pub left : left_of y ≡ left_of x - 1
+  pub pending : is_pending y ≡ not answer
 
 -- a start of rail r towards t
-pub record RelayStarted (b : RelayBoard) (r t : ℕ) (b' : RelayBoard) : Type 0 where
-  pub count : b'.count ≡ b.count
-  pub rails : Changed blank b.count r (Sent t) Same b.rails b'.rails
+abbrev pub RelayStarted : RelayBoard → ℕ → ℕ → RelayBoard → Type 0
+RelayStarted = BenchStarted blank Sent
 
 -- a poll of rail r
-pub record RelayPolled (b : RelayBoard) (r : ℕ) (answer : Bool) (b' : RelayBoard) : Type 0 where
-  pub count : b'.count ≡ b.count
-  pub rails : Changed blank b.count r (Asked answer) Same b.rails b'.rails
+abbrev pub RelayPolled : RelayBoard → ℕ → Bool → RelayBoard → Type 0
+RelayPolled = BenchPolled blank Asked Same
 
 -- a rail at rest at v, with the delay d
 pub record Rests (d v : ℕ) (x : RelayRail) : Type 0 where
   pub value : x.value ≡ v
-  pub target : x.target ≡ v
+  pub target : target_of x ≡ v
   pub delay : x.delay ≡ d
-  pub left : x.left ≡ 0
-  pub still : x.pending ≡ false
-
--- a board made from a count, delays and a first mix
-pub record Made (n : ℕ) (settings first : List ℕ) (b : RelayBoard) : Type 0 where
-  pub count : b.count ≡ n
-  pub rails : AllRest blank Rests n settings first b.rails
+  pub left : left_of x ≡ 0
+  pub still : is_pending x ≡ false

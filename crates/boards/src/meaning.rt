@@ -1,6 +1,6 @@
 // The board trait: what every board means, whatever its make.
-ghost use Rattle.std.specs.Prelude.{◌≡◌, ℕ, ◌<◌, ◌≤◌, Bool, Ok, Err};
-ghost use Rattle.boards.specs.Faults.{number_of};
+ghost use Rattle.std.specs.Prelude.{◌≡◌, ℕ, ◌<◌, ◌≤◌, Bool, OnOk, IfOk, MatchResult};
+ghost use Rattle.boards.specs.Faults.{Refused};
 ghost use Rattle.boards.specs.Meaning.{meant, Stands, Started, Polled};
 
 use crate::fault::BoardFault;
@@ -9,8 +9,7 @@ pub trait Board {
     // The most that a rail of this make may be sent to, in mV.
     const CEILING: u16;
 
-    // The ceiling as clauses name it; `top` ties the two.
-    ghost ceiling: { ℕ };
+    ghost CEILING: { ℕ };
 
     ghost rails: { Self → ℕ };
 
@@ -32,10 +31,6 @@ pub trait Board {
 
     ghost polls: { Self → ℕ → Bool → Self → Type 0 };
 
-    // The make's ceiling.
-    fn top() -> u16
-        ensures { result ≡ ceiling };
-
     // The number of rails.
     fn count(&self) -> u8
         ensures { result ≡ rails self.now };
@@ -43,20 +38,20 @@ pub trait Board {
     // Sends a rail towards a goal in mV.
     fn start(&mut self, rail: u8, goal: u16) -> Result<(), BoardFault>
         ensures kept { (rails self.new ≡ rails self.old) × (patience self.new ≡ patience self.old) }
-        ensures granted { elim result [ Ok _ ↦ (rail < rails self.old) × (goal ≤ ceiling) | Err e ↦ (number_of e ≡ 16) × (self.new ≡ self.old) × (rail < rails self.old → goal ≤ ceiling → ⊥) ] }
-        ensures meaning { elim result [ Ok _ ↦ Started (rails self.old) (patience self.old) (meant value target pending credit self.old) rail goal (meant value target pending credit self.new) | Err _ ↦ Unit {0} ] }
-        ensures own { elim result [ Ok _ ↦ starts self.old rail goal self.new | Err _ ↦ Unit {0} ] };
+        ensures granted { let in_range = (rail < rails self.old) × (goal ≤ CEILING) in MatchResult result (λ _. in_range) (λ e. Refused in_range e × (self.new ≡ self.old)) }
+        ensures meaning { OnOk result (Started (rails self.old) (patience self.old) (meant value target pending credit self.old) rail goal (meant value target pending credit self.new)) }
+        ensures own { OnOk result (starts self.old rail goal self.new) };
 
     // Asks whether a rail has arrived; every rail may move meanwhile.
     fn poll(&mut self, rail: u8) -> Result<bool, BoardFault>
         ensures kept { (rails self.new ≡ rails self.old) × (patience self.new ≡ patience self.old) }
-        ensures granted { elim result [ Ok _ ↦ rail < rails self.old | Err e ↦ (number_of e ≡ 16) × (self.new ≡ self.old) × (rails self.old ≤ rail) ] }
-        ensures meaning { elim result [ Ok said ↦ Polled (rails self.old) (meant value target pending credit self.old) rail said (meant value target pending credit self.new) | Err _ ↦ Unit {0} ] }
-        ensures own { elim result [ Ok said ↦ polls self.old rail said self.new | Err _ ↦ Unit {0} ] };
+        ensures granted { let in_range = rail < rails self.old in MatchResult result (λ _. in_range) (λ e. Refused in_range e × (self.new ≡ self.old)) }
+        ensures meaning { IfOk result (λ said. Polled (rails self.old) (meant value target pending credit self.old) rail said (meant value target pending credit self.new)) }
+        ensures own { IfOk result (λ said. polls self.old rail said self.new) };
 
     // A rail's value in mV, and whether it is pending.
     fn look(&self, rail: u8) -> Result<(u16, bool), BoardFault>
-        ensures { elim result [ Ok seen ↦ (rail < rails self.now) × (seen.0 ≡ value self.now rail) × (seen.1 ≡ pending self.now rail) | Err e ↦ (number_of e ≡ 16) × (rails self.now ≤ rail) ] };
+        ensures { let in_range = rail < rails self.now in MatchResult result (λ seen. in_range × (seen.0 ≡ value self.now rail) × (seen.1 ≡ pending self.now rail)) (Refused in_range) };
 
     ghost counted: { (b : Self) → (1 ≤ rails b) × (rails b ≤ 24) };
 

@@ -1,25 +1,105 @@
 // The ramp bench: its rails go a step further at each poll of any of them.
-pub mod board;
-pub mod make;
+ghost use Rattle.std.specs.Prelude.{◌≡◌, ◌≤◌, unwrap_or};
 
-ghost use Rattle.std.specs.Prelude.{◌≡◌, ◌≤◌, false};
+use crate::bench::Bench;
+use crate::fault::BoardFault;
+use crate::rail::Rail;
 
-// One rail: its value, its target, and the rate by which a poll moves it, in mV.
+pub type RampBench = Bench<RampRail>;
+
+// One rail: its value, its goal while it is pending, and the rate by which a poll moves it, in mV.
 #[derive(Clone, Copy)]
 pub struct RampRail {
     value: u16,
-    target: u16,
+    goal: Option<u16>,
     rate: u16,
-    pending: bool,
-    ghost settled: { pending ≡ false → value ≡ target },
     ghost rated: { (1 ≤ rate) × (rate ≤ 65535) },
-    ghost low: { (value ≤ 65535) × (target ≤ 65535) },
+    ghost low: { (value ≤ 65535) × (unwrap_or goal value ≤ 65535) },
 }
 
-// Only the first `count` rails are read.
-#[derive(Drop)]
-pub struct RampBench {
-    count: u8,
-    rails: [RampRail; 24],
-    ghost counted: { (1 ≤ count) × (count ≤ 24) },
+impl RampRail {
+    ghost use Rattle.boards.specs.Ramp.{target_of, towards};
+
+    // Where it is to be: at its goal, or where it rests.
+    fn target(self) -> u16
+        ensures { result ≡ target_of self }
+    {
+        self.goal.unwrap_or(self.value)
+    }
+
+    // Its value after a step of its rate towards its target.
+    fn stepped(self) -> u16
+        ensures { result ≡ towards self.value (target_of self) self.rate }
+    {
+        let up = self.value.saturating_add(self.rate);
+        let down = self.value.saturating_sub(self.rate);
+        self.target().min(up).max(down)
+    }
+}
+
+impl Rail for RampRail {
+    ghost use Rattle.boards.specs.Making.{Within};
+    ghost use Rattle.boards.specs.Ramp.{meaning_of, blank, Rests, Sent, Asked, Moved};
+    ghost use Rattle.std.proofs.Common.{rules};
+
+    const CEILING: u16 = 65535;
+
+    // A rate in mV.
+    type Setting = u16;
+
+    ghost CEILING = { 65535 };
+
+    ghost patience = { 65534 };
+
+    ghost meaning = { meaning_of };
+
+    ghost blank = { blank };
+
+    ghost unset = { 0 };
+
+    ghost suits = { Within 1 65535 };
+
+    ghost rests = { Rests };
+
+    ghost sent = { Sent };
+
+    ghost asked = { Asked };
+
+    ghost passed = { Moved };
+
+    ghost stands = { Prim.search rules };
+
+    fn rest(rate: u16, mv: u16) -> Result<RampRail, BoardFault> {
+        if rate == 0 {
+            return Err(BoardFault::OutOfRange);
+        }
+        Ok(RampRail {
+            value: mv,
+            goal: None,
+            rate,
+        })
+    }
+
+    fn start(mut self, goal: u16) -> Result<RampRail, BoardFault> {
+        self.goal = Some(goal);
+        Ok(self)
+    }
+
+    fn poll(self) -> (RampRail, bool) {
+        let mut moved = self.pass();
+        let arrived = moved.value == moved.target();
+        if arrived {
+            moved.goal = None;
+        }
+        (moved, arrived)
+    }
+
+    fn pass(mut self) -> RampRail {
+        self.value = self.stepped();
+        self
+    }
+
+    fn look(self) -> (u16, bool) {
+        (self.value, self.goal.is_some())
+    }
 }

@@ -14,13 +14,7 @@ mod tests {
     }
 
     fn steady<B: Board + Drop>(below: B, need: u8) -> Result<Steady<B>, BoardFault> {
-        match Steady::new(below, need) {
-            Ok(layer) => Ok(layer),
-            Err(back) => {
-                let (_, fault) = back;
-                Err(fault)
-            }
-        }
+        Steady::new(below, need).map_err(|(_, fault)| fault)
     }
 
     // Polls a rail; the answer, and what a look shows then.

@@ -1,12 +1,14 @@
 // The steady layer: over any board, it says yes only after several yes answers running.
-ghost use Rattle.std.specs.Prelude.{◌≡◌, ◌+◌, ◌-◌, ◌≤◌, if◌then◌else◌, Ok, Err};
-ghost use Rattle.boards.specs.Faults.{number_of};
-ghost use Rattle.layers.specs.Steady.{pendings, credits, run_after, Fresh, Built, SteadyStarted, SteadyPolled};
+ghost use Rattle.std.specs.Prelude.{◌≡◌, ◌+◌, ◌-◌, ◌<◌, if◌then◌else◌, MatchResult};
+ghost use Rattle.boards.specs.Faults.{Refused};
+ghost use Rattle.boards.specs.Making.{Within};
+ghost use Rattle.layers.specs.Steady.{pendings, credits, run_after, Built, SteadyStarted, SteadyPolled};
 ghost use Rattle.std.proofs.Common.{rules};
 
 use boards::{Board, BoardFault};
+use std::array;
 
-// `need` answers have to run; `run` has how many have, of each rail.
+// `need` answers have to run; `run` has how many have, of each rail. Fixed memory: as any board, it is worked without a heap.
 #[derive(Drop)]
 pub struct Steady<B> {
     below: B,
@@ -17,54 +19,41 @@ pub struct Steady<B> {
 impl<B: Board> Steady<B> {
     // A layer that wants 1 to 16 yes answers running; with a refusal the board comes back.
     pub fn new(below: B, need: u8) -> Result<Steady<B>, (B, BoardFault)>
-        ensures { elim result [ Ok s ↦ (1 ≤ need) × (need ≤ 16) × Built B.Board.rails B.Board.pending below need s | Err e ↦ (e.0 ≡ below) × (number_of e.1 ≡ 16) × (1 ≤ need → need ≤ 16 → ⊥) ] }
+        ensures { let in_range = Within 1 16 need in MatchResult result (λ s. in_range × Built B.Board.rails B.Board.pending below need s) (λ e. (e.0 ≡ below) × Refused in_range e.1) }
     {
         if need == 0 || need > 16 {
             return Err((below, BoardFault::OutOfRange));
         }
-        let run = fresh(&below, need);
+        let run = array::from_fn(|rail| first_run(&below, need, rail as u8));
         Ok(Steady { below, need, run })
     }
 }
 
-// The answers that count as run on each rail when the layer is built.
-fn fresh<B: Board>(below: &B, need: u8) -> [u8; 24]
-    ensures { Fresh (B.Board.rails below.now) (B.Board.pending below.now) need result }
+// The answers that count as run on a rail when a layer is built: none where it is pending below, all on any other.
+fn first_run<B: Board>(below: &B, need: u8, rail: u8) -> u8
+    ensures { rail < B.Board.rails below.now → result ≡ (if B.Board.pending below.now rail then 0 else need) }
 {
-    let mut run = [0; 24];
-    for rail in 0..below.count() {
-        let Ok((_, pending)) = below.look(rail) else {
-            unreachable()
-        };
-        run[rail as usize] = first_run(pending, need);
+    match below.look(rail) {
+        Ok((_, true)) => 0,
+        _ => need,
     }
-    run
-}
-
-// None of a rail that is pending below, and all of any other.
-fn first_run(pending: bool, need: u8) -> u8
-    ensures { result ≡ (if pending then 0 else need) }
-{
-    if pending { 0 } else { need }
 }
 
 // The yes answers that run after one more answer.
 fn counted(yes: bool, need: u8, run: u8) -> u8
     ensures { result ≡ run_after need yes run }
 {
-    if !yes {
-        0
-    } else if run < need {
-        run + 1
+    if yes {
+        run.saturating_add(1).min(need)
     } else {
-        need
+        0
     }
 }
 
 impl<B: Board> Board for Steady<B> {
     const CEILING: u16 = B::CEILING;
 
-    ghost ceiling = { B.Board.ceiling };
+    ghost CEILING = { B.Board.CEILING };
 
     ghost rails = { λ s. B.Board.rails s.below };
 
@@ -85,10 +74,6 @@ impl<B: Board> Board for Steady<B> {
     ghost counted = { Prim.search rules };
 
     ghost stands = { Prim.search rules };
-
-    fn top() -> u16 {
-        B::top()
-    }
 
     fn count(&self) -> u8 {
         self.below.count()

@@ -3,13 +3,12 @@ use Rattle.std.proofs.Common.{◌≡◌, ℕ, suc, ◌+◌, ◌-◌, ◌*◌, �
 use native.Mathlib.Decide.{ℕ_discrete}
 use Rattle.std.proofs.lemmas.Bool.{cases_lt}
 use Rattle.std.proofs.lemmas.Bool.Decides.{nat_tests}
-use Rattle.boards.specs.declared.ramp.RampBench.{RampBench}
 use Rattle.boards.specs.declared.ramp.RampRail.{RampRail}
 use Rattle.boards.specs.Rails.{Changed}
-use Rattle.boards.specs.Ramp.{rail_at, values, targets, rates, apart, towards, Sent, Asked, RampStarted, RampPolled}
+use Rattle.boards.specs.Ramp.{RampBench, target_of, rail_at, values, targets, rates, apart, towards, Sent, Asked, RampStarted, RampPolled}
 use Rattle.makes.specs.Calls.{Ask, Since, none, polled, sent}
 use Rattle.makes.specs.Laws.{RampArrives}
-use Rattle.makes.proofs.Kept.{kept}
+use Rattle.makes.proofs.Kept.{count_kept}
 
 towards_none : (v t : ℕ) → v ≡ towards v t 0
 towards_none v t = omega arith
@@ -53,8 +52,8 @@ each_row {blank = blank} {r = r} {xs = xs} {ys = ys} Q f g c i h = elim (ℕ_dis
 
 -- a rail that has gone d mV towards its target
 pub record Gone (d : ℕ) (x y : RampRail) : Type 0 where
-  pub value : y.value ≡ towards x.value x.target d
-  pub target : y.target ≡ x.target
+  pub value : y.value ≡ towards x.value (target_of x) d
+  pub target : target_of y ≡ target_of x
   pub rate : y.rate ≡ x.rate
 
 -- every poll moves every rail
@@ -67,23 +66,20 @@ polled_gone r h p =
 
 gone_more : (a d : ℕ) (x y z : RampRail) → Gone a x y → Gone d y z → Gone (a + d) x z
 gone_more a d x y z g h = record {
-  value = cc (towards_more x.value x.target a d);
+  value = cc (towards_more x.value (target_of x) a d);
   target = h.target ∙ g.target;
   rate = h.rate ∙ g.rate;
 }
-
-since_count : {r : ℕ} {b b' : RampBench} {asks : List Ask} → Since RampStarted RampPolled r b asks b' → b'.count ≡ b.count
-since_count p = kept (λ b. b.count) (λ b b' i t q. q.count) (λ b b' i a q. q.count) p
 
 pub since_gone : (r : ℕ) {b b' : RampBench} {asks : List Ask} → r < b.count → Since RampStarted RampPolled r b asks b' → Gone (length asks * rates b r) (rail_at b r) (rail_at b' r)
 since_gone r {b} h none = record { value = rw (zero-mul (rates b r)) (towards_none (values b r) (targets b r)); target = refl; rate = refl }
 since_gone r {b = b} {b' = b''} h (polled {b' = b'} {asks = asks} p q) =
     let gone = since_gone r h p in
-    let in_count : r < b'.count = omega (arith, since_count p) in
+    let in_count : r < b'.count = omega (arith, count_kept p) in
     let more = subst (λ d. Gone d (rail_at b' r) (rail_at b'' r)) gone.rate (polled_gone r in_count q) in
     rw (suc-mul (length asks) (rates b r)) (gone_more (length asks * rates b r) (rates b r) (rail_at b r) (rail_at b' r) (rail_at b'' r) gone more)
 since_gone r {b = b} {asks = asks} h (sent {b' = b'} p ne q) =
-    let in_count : r < b'.count = omega (arith, since_count p) in
+    let in_count : r < b'.count = omega (arith, count_kept p) in
     subst (Gone (length asks * rates b r) (rail_at b r)) (sym (q.rails.others r in_count ne)) (since_gone r h p)
 
 -- a rail that was sent towards t, and has gone d mV since
@@ -91,7 +87,7 @@ sent_gone : (d t : ℕ) (x y z : RampRail) → Sent t x y → Gone d y z → z.v
 sent_gone d t x y z s g = cc
 
 -- the answer to the poll by which it has gone so far
-told : (answer : Bool) (d v t : ℕ) (y z : RampRail) → Asked answer y z → y.target ≡ t → z.value ≡ towards v t d → answer ≡ leb (apart v t) d
+told : (answer : Bool) (d v t : ℕ) (y z : RampRail) → Asked answer y z → target_of y ≡ t → z.value ≡ towards v t d → answer ≡ leb (apart v t) d
 told answer d v t y z a e w = a.arrived ∙ ap (λ x. eqb z.value x) e ∙ ap (λ x. eqb x t) w ∙ far_enough v t d
 
 pub ramp_arrives : RampArrives

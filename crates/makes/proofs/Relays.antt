@@ -2,18 +2,17 @@
 use Rattle.std.proofs.Common.{◌≡◌, ℕ, suc, ◌-◌, ◌<◌, Bool, cond, eqb, ltb, leb, List, length, sym, ap, ◌∙◌, subst, arith, eq-eqb, ne_eqb}
 use native.Mathlib.Decide.{ℕ_discrete}
 use Rattle.std.proofs.lemmas.Bool.Decides.{nat_tests}
-use Rattle.boards.specs.declared.relay.RelayBoard.{RelayBoard}
 use Rattle.boards.specs.declared.relay.RelayRail.{RelayRail}
-use Rattle.boards.specs.Relay.{rail_at, values, Sent, Asked, RelayStarted, RelayPolled}
+use Rattle.boards.specs.Relay.{RelayBoard, target_of, left_of, rail_at, values, Sent, Asked, RelayStarted, RelayPolled}
 use Rattle.makes.specs.Calls.{Ask, Since, none, polled, sent, answers}
 use Rattle.makes.specs.Laws.{RelayWaits}
-use Rattle.makes.proofs.Kept.{kept}
+use Rattle.makes.proofs.Kept.{count_kept}
 
 -- a rail with the delay d that was started from v towards t and has been polled m times since
 pub record Waited (d v t m : ℕ) (x : RelayRail) : Type 0 where
-  pub left : x.left ≡ d - m
+  pub left : left_of x ≡ d - m
   pub value : x.value ≡ cond (ltb d m) t v
-  pub target : x.target ≡ t
+  pub target : target_of x ≡ t
 
 over : (d m : ℕ) → eqb (d - m) 0 ≡ leb d m
 over d m = grind (arith, nat_tests)
@@ -37,20 +36,17 @@ module _ {d v t m : ℕ} {answer : Bool} {x y : RelayRail} (w : Waited d v t m x
   pub asked_waited : Waited d v t (suc m) y
   asked_waited = record { left = omega (arith, a.left, w.left); value = came ∙ ap (λ o. cond o t v) (one_later d m); target = a.target ∙ w.target }
 
-since_count : {r : ℕ} {b b' : RelayBoard} {asks : List Ask} → Since RelayStarted RelayPolled r b asks b' → b'.count ≡ b.count
-since_count p = kept (λ b. b.count) (λ b b' i t q. q.count) (λ b b' i a q. q.count) p
-
 pub since_waited : {d v t : ℕ} (r : ℕ) {b b' : RelayBoard} {asks : List Ask} → r < b.count → Waited d v t 0 (rail_at b r) → Since RelayStarted RelayPolled r b asks b' → Waited d v t (length (answers r asks)) (rail_at b' r)
 since_waited r h w none = w
 since_waited {d} {v} {t} r {b' = b''} h w (polled {b' = b'} {asks = asks} {ask = ask} p q) =
     let before = since_waited r h w p in
-    let in_count : r < b'.count = omega (arith, since_count p) in
+    let in_count : r < b'.count = omega (arith, count_kept p) in
     elim (ℕ_discrete r ask.rail) [
       | yes e ↦ rw (eq-eqb ask.rail r (sym e)) (asked_waited before (subst (λ i. Asked ask.answer (rail_at b' i) (rail_at b'' i)) (sym e) q.rails.rail))
       | no ne ↦ rw (ne_eqb ask.rail r (λ e. ne (sym e))) (subst (Waited d v t (length (answers r asks))) (sym (q.rails.others r in_count ne)) before)
     ]
 since_waited {d} {v} {t} r {asks = asks} h w (sent {b' = b'} p ne q) =
-    let in_count : r < b'.count = omega (arith, since_count p) in
+    let in_count : r < b'.count = omega (arith, count_kept p) in
     subst (Waited d v t (length (answers r asks))) (sym (q.rails.others r in_count ne)) (since_waited r h w p)
 
 pub relay_waits : RelayWaits

@@ -1,10 +1,8 @@
 -- The rows of answers that polls right after a start come to. Assumes nothing.
 use Rattle.std.proofs.Common.{◌≡◌, ℕ, zero, suc, ◌+◌, ◌-◌, Bool, ◌&&◌, eqb, leb, List, [], ◌∷◌, ap, ◌∙◌}
-use Rattle.boards.specs.declared.ramp.RampBench.{RampBench}
-use Rattle.boards.specs.declared.relay.RelayBoard.{RelayBoard}
 use Rattle.layers.specs.declared.steady.Steady.{Steady}
-use Rattle.boards.specs.Ramp.{values, targets, rates, towards, RampPolled}
-use Rattle.boards.specs.Relay.{lefts, RelayPolled}
+use Rattle.boards.specs.Ramp.{RampBench, values, targets, rates, towards, RampPolled}
+use Rattle.boards.specs.Relay.{RelayBoard, lefts, RelayPolled}
 use Rattle.layers.specs.Steady.{run_at, run_after, SteadyPolled}
 use Rattle.makes.specs.Calls.{Gives}
 use Rattle.makes.specs.Cases.{FourPolls, ThirdYes}

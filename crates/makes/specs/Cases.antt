@@ -1,10 +1,8 @@
 -- Worked cases: the answers of a rail's polls right after its start. Assumes nothing.
 use Rattle.std.specs.Prelude.{◌≡◌, ℕ, Bool, true, false, List, [], ◌∷◌}
-use Rattle.boards.specs.declared.ramp.RampBench.{RampBench}
-use Rattle.boards.specs.declared.relay.RelayBoard.{RelayBoard}
 use Rattle.layers.specs.declared.steady.Steady.{Steady}
-use Rattle.boards.specs.Ramp.{values, rates, RampStarted, RampPolled}
-use Rattle.boards.specs.Relay.{delays, RelayStarted, RelayPolled}
+use Rattle.boards.specs.Ramp.{RampBench, values, rates, RampStarted, RampPolled}
+use Rattle.boards.specs.Relay.{RelayBoard, delays, RelayStarted, RelayPolled}
 use Rattle.layers.specs.Steady.{SteadyStarted, SteadyPolled}
 use Rattle.makes.specs.Calls.{Gives}
 

@@ -1,11 +1,9 @@
 -- What each make answers to the next poll of a rail, after its start and any calls since. Assumes nothing.
 use Rattle.std.specs.Prelude.{◌≡◌, ℕ, ◌+◌, ◌*◌, ◌<◌, ◌≤◌, Bool, true, cond, List, ◌∷◌, map, length, take, replicate, Decides, nat_le}
-use Rattle.boards.specs.declared.ramp.RampBench.{RampBench}
-use Rattle.boards.specs.declared.relay.RelayBoard.{RelayBoard}
 use Rattle.layers.specs.declared.steady.Steady.{Steady}
-use Rattle.boards.specs.Ramp.{apart, towards, rates, RampStarted, RampPolled}
+use Rattle.boards.specs.Ramp.{RampBench, apart, towards, rates, RampStarted, RampPolled}
 use Rattle.boards.specs.Ramp.{values as ramp_values}
-use Rattle.boards.specs.Relay.{delays, RelayStarted, RelayPolled}
+use Rattle.boards.specs.Relay.{RelayBoard, delays, RelayStarted, RelayPolled}
 use Rattle.boards.specs.Relay.{values as relay_values}
 use Rattle.layers.specs.Steady.{SteadyStarted, SteadyPolled}
 use Rattle.makes.specs.Calls.{Ask, rail_of, Since, answers}

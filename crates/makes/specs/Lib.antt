@@ -1,3 +1,4 @@
 pub mod Calls
 pub mod Laws
 pub mod Cases
+pub mod Meant

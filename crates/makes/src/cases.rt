@@ -18,11 +18,12 @@ pub fn ramp_case() -> Result<[bool; 4], BoardFault>
 {
     let mut bench = RampBench::new(1, &[500; 24], &Mix { values: [0; 24] })?;
     bench.start(0, 1650)?;
-    let first = bench.poll(0)?;
-    let second = bench.poll(0)?;
-    let third = bench.poll(0)?;
-    let fourth = bench.poll(0)?;
-    Ok([first, second, third, fourth])
+    Ok([
+        bench.poll(0)?,
+        bench.poll(0)?,
+        bench.poll(0)?,
+        bench.poll(0)?,
+    ])
 }
 
 // The first polls of a steady layer of three over a relay with no delay.
@@ -30,16 +31,7 @@ pub fn steady_case() -> Result<[bool; 3], BoardFault>
     ensures { result ≡ Ok (false ∷ false ∷ true ∷ []) }
 {
     let relay = RelayBoard::new(1, &[0; 24], &Mix { values: [0; 24] })?;
-    let mut layer = match Steady::new(relay, 3) {
-        Ok(layer) => layer,
-        Err(back) => {
-            let (_, fault) = back;
-            return Err(fault);
-        }
-    };
+    let mut layer = Steady::new(relay, 3).map_err(|(_, fault)| fault)?;
     layer.start(0, 900)?;
-    let first = layer.poll(0)?;
-    let second = layer.poll(0)?;
-    let third = layer.poll(0)?;
-    Ok([first, second, third])
+    Ok([layer.poll(0)?, layer.poll(0)?, layer.poll(0)?])
 }

@@ -5,4 +5,4 @@ pub mod cases;
 pub mod laws;
 
 pub use cases::{cases_stand, ramp_case, steady_case};
-pub use laws::{layers_stand, makes_stand};
+pub use laws::{layers_stand, makes_mean, makes_stand};
