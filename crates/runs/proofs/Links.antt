@@ -8,13 +8,13 @@ use Rattle.histories.specs.declared.run.Direction.{Direction}
 use Rattle.histories.specs.declared.run.Direction.TheVariants.{Forward, Backward}
 use Rattle.histories.specs.declared.step.Step.{Step}
 use Rattle.histories.specs.declared.step.Step.TheVariants.{Start, Wait}
-use Rattle.histories.specs.Rails.{origin_of}
+use Rattle.histories.specs.Rails.{rail_of, origin_of}
 use Rattle.openings.specs.Plans.{rails_at}
 use Rattle.openings.specs.Openings.{Low}
 use Rattle.openings.specs.Runs.{at, Advanced, still_ahead, end_ahead, still_back, end_back}
 use Rattle.openings.proofs.Lows.{low_rails}
 use Rattle.runs.specs.declared.journey.Journey.{Journey}
-use Rattle.runs.specs.Journeys.{rail_of, current}
+use Rattle.runs.specs.Journeys.{current}
 use Rattle.runs.specs.Working.{Asked, boards, plan_of, script_of, Same, Suited, Worked}
 use Rattle.runs.proofs.Places.{ahead, behind, none_ahead, step_here, rail_here}
 
@@ -58,7 +58,7 @@ module _ {B : Type 0} (make : Ghosts B) (j j' : Journey) (b b' : B) (s : Step) (
 
 -- the same run, at the same place
 same_as : (j : Journey) → Same j j
-same_as j = record { rails = refl; first = refl; count = refl; steps = refl }
+same_as j = record { rails = refl; first = refl; steps = refl }
 
 module _ {B : Type 0} (make : Ghosts B) (j : Journey) (b : B) where
   pub waiting_on : (b' : B) (r : ℕ) → j.direction ≡ Forward → Some (Wait r) ≡ current (script_of j) j.place j.direction → Asked make b r false b' → Worked make j b Waiting j b'
@@ -82,9 +82,9 @@ module _ {B : Type 0} (make : Ghosts B) (j : Journey) (b : B) where
   ended zero Backward le e = end_back
   ended (suc k) Backward le e = absurd (omega (arith, le, ap length (none_ahead (script_of j) k e), length-drop k (script_of j)))
 
-  pub arrived : j.count ≤ length j.steps → ◌≡◌ {A = Option Step} None (current (script_of j) j.place j.direction) → Worked make j b Arrived j b
-  arrived le e = record {
+  pub arrived : ◌≡◌ {A = Option Step} None (current (script_of j) j.place j.direction) → Worked make j b Arrived j b
+  arrived e = record {
     moments = [];
-    advanced = ended j.place j.direction (omega (arith, length-take-le j.count j.steps le, j.within)) e;
+    advanced = ended j.place j.direction j.within e;
     same = same_as j;
   }

@@ -7,9 +7,9 @@ use Rattle.histories.specs.declared.run.Direction.{Direction}
 use Rattle.histories.specs.declared.run.Direction.TheVariants.{Forward, Backward}
 use Rattle.histories.specs.declared.step.Step.{Step}
 use Rattle.histories.specs.declared.step.Step.TheVariants.{Start, Wait}
-use Rattle.histories.specs.Rails.{after, stepped}
+use Rattle.histories.specs.Rails.{rail_of, after, stepped}
 use Rattle.openings.proofs.Kept.{start_there, wait_there, by_rail}
-use Rattle.runs.specs.Journeys.{rail_of, OnRails, record_at, Recorded, leading, current}
+use Rattle.runs.specs.Journeys.{OnRails, record_at, Recorded, leading, current}
 
 -- the current step as the code reads it from the first n of its steps
 pub current_ahead : (steps : List Step) (n k : ℕ) (d : Direction) → d ≡ Forward → n ≤ length steps → k < n → Some (get_or steps k (Start 0 0)) ≡ current (take n steps) k d

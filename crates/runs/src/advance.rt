@@ -5,7 +5,6 @@ use crate::journey::Journey;
 use crate::work::{ask, send};
 use boards::Board;
 use histories::{Answer, Direction, Step};
-use scripts::origin_of;
 
 impl Journey {
     // Does the step at the place, or undoes the last one done, unless a poll says that the rail is not there yet.
@@ -27,7 +26,7 @@ impl Journey {
                 Answer::Moved
             }
             (Direction::Backward, Some(Step::Wait { rail })) => {
-                send(board, rail, origin_of(self.before(rail)));
+                send(board, rail, self.before(rail).origin());
                 self.go_back(Step::Wait { rail });
                 Answer::Moved
             }

@@ -11,7 +11,8 @@ pub fn rail_at(first: &Mix, script: &[Step], place: usize, rail: usize) -> Rail
     ensures { result ≡ after (value_of first.now.values) script.now place rail }
 {
     let value = first.values.get(rail).copied().unwrap_or(0);
-    script.iter().take(place).fold(
+    let steps = script.iter().take(place);
+    steps.fold(
         Rail::Still { value },
         |state, step| state.stepped(*step, rail),
     )

@@ -36,7 +36,7 @@ send-requires-in-Backward-Some-Wait g c =
     let j = c.args.self.now in
     record {
       rail = step_rail g.B.Board j c.args.board.now c.requires (Wait w.rail) is;
-      low = omega (arith, c.origin_of.ensures, ap origin_of c.before-in-Backward-Some-Wait.ensures, origin_low g.B.Board j c.args.board.now c.requires w.rail is (j.place - 1));
+      low = omega (arith, c.origin.ensures, ap origin_of c.before-in-Backward-Some-Wait.ensures, origin_low g.B.Board j c.args.board.now c.requires w.rail is (j.place - 1));
     }
 
 pub ask-requires-in-Backward-Some-Start : goal.ask-requires-in-Backward-Some-Start
@@ -73,7 +73,7 @@ returns-in-Backward-Some-Wait g c =
     let is : Some (Wait w.rail) ≡ current (script_of c.args.self.now) c.args.self.now.place c.args.self.now.direction = search rules in
     let p = c.go_back.ensures in
     moved_back g.B.Board c.args.self.now c.go_back.new.self c.args.board.now c.send-in-Backward-Some-Wait.new.board (Wait w.rail) is w.is-0 p.place p.direction p.same
-    (λ rest e. wait_back e (rw (c.origin_of.ensures ∙ ap origin_of c.before-in-Backward-Some-Wait.ensures) at c.send-in-Backward-Some-Wait.ensures))
+    (λ rest e. wait_back e (rw (c.origin.ensures ∙ ap origin_of c.before-in-Backward-Some-Wait.ensures) at c.send-in-Backward-Some-Wait.ensures))
 
 pub returns-else-not-ask-2 : goal.returns-else-not-ask-2
 returns-else-not-ask-2 g c =
@@ -85,12 +85,8 @@ returns-else-not-ask-2 g c =
 
 pub returns-in_default-None : goal.returns-in_default-None
 returns-in_default-None g c =
-    let j = c.args.self.now in
-    let le : j.count ≤ length j.steps = omega (arith, j.held, j.sized.1) in
-    arrived g.B.Board j c.args.board.now le (sym c.in_default-None.is-1 ∙ c.current.ensures)
+    arrived g.B.Board c.args.self.now c.args.board.now (sym c.in_default-None.is-1 ∙ c.current.ensures)
 
 pub returns-in_default-None-2 : goal.returns-in_default-None-2
 returns-in_default-None-2 g c =
-    let j = c.args.self.now in
-    let le : j.count ≤ length j.steps = omega (arith, j.held, j.sized.1) in
-    arrived g.B.Board j c.args.board.now le (sym c.in_default-None.is-1 ∙ c.current.ensures)
+    arrived g.B.Board c.args.self.now c.args.board.now (sym c.in_default-None.is-1 ∙ c.current.ensures)
