@@ -1,11 +1,12 @@
 -- Calls on a run, from what the code has in hand. Assumes nothing.
-use Rattle.std.proofs.Common.{◌≡◌, ℕ, true, false, List, [], Some, None, Ok, Err, Result, refl, subst, arith}
+use Rattle.std.proofs.Common.{◌≡◌, ℕ, true, false, List, [], Some, None, Ok, Err, Result, MatchResult, refl, subst, arith}
 use Rattle.boards.specs.declared.meaning.Board.{Ghosts}
 use Rattle.histories.specs.declared.fault.RunFault.{RunFault}
 use Rattle.histories.specs.declared.fault.RunFault.TheVariants.{NotOpen, Unsuited, Between}
 use Rattle.histories.specs.declared.run.Answer.{Answer}
 use Rattle.histories.specs.declared.run.Call.{Call}
 use Rattle.histories.specs.declared.run.Call.TheVariants.{Advance, Turn, Close}
+use Rattle.histories.specs.declared.run.Outcome.{Outcome}
 use Rattle.histories.specs.declared.run.Outcome.TheVariants.{Answered, Granted, Refused}
 use Rattle.openings.specs.Runs.{State, at, other, Called, advanced, turned, closed, kept_open}
 use Rattle.runs.specs.declared.journey.Journey.{Journey}
@@ -38,6 +39,11 @@ module _ {B : Type 0} (make : Ghosts B) (run : Run) (b : B) where
       let left : State B = journey_state j' b' in
       let there : at j.place (other j.direction) b' ≡ left = rw (w.place, w.direction) in
       rw e (w.moments, made (λ _. s) (subst (λ x. Called (boards make) (plan_of make j b) (journey_state j b) Turn Granted w.moments x) there (turned w.restarted)) w.same)
+
+-- an answer as an outcome, case by case
+pub granted_by : {A : Type 0} (r : Result A RunFault) (out : Outcome) → MatchResult r (λ _. out ≡ Granted) (λ e. out ≡ Refused e) → out ≡ granted r
+granted_by (Ok a) out h = h
+granted_by (Err e) out h = h
 
 -- a close does nothing to any board
 pub closes : {A B : Type 0} (make : Ghosts B) (run run' : Run) (b : B) (r : Result A RunFault) → Closes run r run' → Ran make run b Close (granted r) [] run' b

@@ -11,21 +11,6 @@ use Rattle.histories.specs.Rails.{rail_of, after, stepped}
 use Rattle.openings.proofs.Kept.{start_there, wait_there, by_rail}
 use Rattle.runs.specs.Journeys.{OnRails, record_at, Recorded, leading, current}
 
--- the current step as the code reads it from the first n of its steps
-pub current_ahead : (steps : List Step) (n k : ℕ) (d : Direction) → d ≡ Forward → n ≤ length steps → k < n → Some (get_or steps k (Start 0 0)) ≡ current (take n steps) k d
-current_ahead steps n k d e le lt =
-    rw e (let here : k < length (take n steps) = omega (arith, length-take-le n steps le) in
-    ap Some (sym (get_or-take n steps k (Start 0 0) lt)) ∙ sym (ap leading (drop-cons (take n steps) k (Start 0 0) here)))
-
-pub current_done : (steps : List Step) (n k : ℕ) (d : Direction) → d ≡ Forward → n ≤ length steps → n ≤ k → ◌≡◌ {A = Option Step} None (current (take n steps) k d)
-current_done steps n k d e le ge = rw e (sym (ap leading (drop_of_length-le (take n steps) {i = k} (omega (arith, length-take-le n steps le)))))
-
-pub current_back : (steps : List Step) (n k : ℕ) (d : Direction) → d ≡ Backward → n ≤ length steps → 0 < k → k ≤ n → Some (get_or steps (k - 1) (Start 0 0)) ≡ current (take n steps) k d
-current_back steps n zero d e le h l = absurd (omega arith)
-current_back steps n (suc k) d e le h l =
-    let p : suc k - 1 ≡ k = omega arith in
-    rw (e, p) (current_ahead steps n k Forward refl le l)
-
 -- what the current step says of the script
 leading_some : (l : List Step) (s : Step) → Some s ≡ leading l → (rest : List Step) × (l ≡ s ∷ rest)
 leading_some [] s e = let z : ◌≡◌ {A = ℕ} 0 1 = cc in absurd (omega arith)

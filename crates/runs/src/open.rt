@@ -17,11 +17,9 @@ impl Journey {
         requires { B.Board.rails board.now ≡ self.now.rails }
         ensures { Decides result (Standing (plan_of B.Board self.now board.now) (meaning B.Board board.now)) }
     {
-        for rail in 0..self.rails {
-            let Ok((value, pending)) = board.look(rail) else {
-                unreachable()
-            };
-            if pending || value != self.first.values[rail as usize] {
+        let firsts = &self.first.values[..self.rails as usize];
+        for (rail, first) in firsts.iter().enumerate() {
+            if board.look(rail as u8) != Ok((*first, false)) {
                 return false;
             }
         }
