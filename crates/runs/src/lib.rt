@@ -9,7 +9,7 @@ pub mod journey;
 pub mod open;
 mod place;
 pub mod run;
-pub mod steps;
+mod steps;
 mod suit;
 mod turn;
 mod work;

@@ -5,7 +5,7 @@ use histories::Step;
 
 // Fixed memory: a run keeps its script without a heap, and only the first `count` items are read.
 #[derive(Clone, Copy)]
-pub struct Steps {
+pub(crate) struct Steps {
     items: [Step; 64],
     count: usize,
     ghost fits: { (count ≤ 64) × (length items ≡ 64) },

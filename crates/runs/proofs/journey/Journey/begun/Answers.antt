@@ -19,6 +19,6 @@ invariant_of-result c =
       sized = c.map.ensures.items.long;
       known = rw (c.rails.ensures, c.copied.ensures) (formed_rails p.platform.now.rails (value_of p.first.now.values) p.script.now c.requires);
       recorded = λ i lt.
-        let made = c.map.ensures.items.at i 0 (Still 0) (omega (arith, lt, c.rails.ensures, p.platform.now.rails_counted.1)) in
-        search rules;
+          let made = c.map.ensures.items.at i 0 (Still 0) (omega (arith, lt, c.rails.ensures, p.platform.now.rails_counted.1)) in
+          search rules;
     }

@@ -23,10 +23,10 @@ returns-then-not-suited g c =
       not_open c.args.self.now c.if-is_open.ensures.1,
       c.in_ok-check.ensures.0,
       λ suits stands.
-        elim c.then-not-suited.branch [
-          | then-not-suited-via-then-not-suited w ↦ never w.if-not-suited.ensures.1 (subst (λ q. Suits q (g.B.Board.rails b)) plan suits)
-          | then-not-suited-via-else-not-suited+then-not-stands_on w ↦ never w.if-not-stands_on.ensures.1 (subst (λ q. Standing q (meaning g.B.Board b)) plan stands)
-        ],
+          elim c.then-not-suited.branch [
+            | then-not-suited-via-then-not-suited w ↦ never w.if-not-suited.ensures.1 (subst (λ q. Suits q (g.B.Board.rails b)) plan suits)
+            | then-not-suited-via-else-not-suited+then-not-stands_on w ↦ never w.if-not-stands_on.ensures.1 (subst (λ q. Standing q (meaning g.B.Board b)) plan stands)
+          ],
       refl,
     )
 
