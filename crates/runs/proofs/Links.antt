@@ -1,7 +1,6 @@
 -- The links of a history, from what the code has in hand. Assumes nothing.
 use Rattle.std.proofs.Common.{◌≡◌, ℕ, zero, suc, ◌+◌, ◌-◌, ◌<◌, ◌≤◌, false, List, [], ◌∷◌, length, drop, Some, None, Option, refl, ap, subst, add-one, arith, length-drop}
 use Rattle.std.proofs.ByRecursion.{All-get_or}
-use Rattle.std.proofs.lemmas.List.{length-take-le}
 use Rattle.boards.specs.declared.meaning.Board.{Ghosts}
 use Rattle.histories.specs.declared.run.Answer.TheVariants.{Moved, Waiting, Arrived}
 use Rattle.histories.specs.declared.run.Direction.{Direction}

@@ -1,7 +1,6 @@
-use Rattle.std.proofs.Common.{◌≡◌, ◌<◌, ◌≤◌, sym, subst, arith, rules}
+use Rattle.std.proofs.Common.{arith, rules}
 use Rattle.platform.specs.Units.{value_of}
 use Rattle.histories.specs.declared.rail.Rail.TheVariants.{Still}
-use Rattle.runs.specs.Journeys.{OnRails}
 use Rattle.runs.proofs.Forms.{formed_short, formed_rails}
 use Rattle.runs.proofs.journey.Journey.begun.Goals as goal
 

@@ -1,4 +1,4 @@
-use Rattle.std.proofs.Common.{◌≡◌, Some, None, Option, Decides, refl, sym, subst, ◌∙◌, arith}
+use Rattle.std.proofs.Common.{Some, None, Option, Decides, refl}
 use Rattle.std.specs.Option.{is_some}
 use Rattle.runs.specs.declared.journey.Journey.{Journey}
 use Rattle.runs.specs.Opening.{IsOpen}

@@ -1,4 +1,4 @@
-use Rattle.std.proofs.Common.{arith, rules}
+use Rattle.std.proofs.Common.{rules}
 use Rattle.runs.proofs.Outcomes.{never}
 use Rattle.runs.proofs.run.Run.journey_on.Goals as goal
 
