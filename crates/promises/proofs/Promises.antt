@@ -14,9 +14,8 @@ use Rattle.openings.specs.Laws.{Begins}
 use Rattle.openings.proofs.Safety.{safe_throughout}
 use Rattle.openings.proofs.Arrival.{reaches, called_told}
 use Rattle.openings.proofs.Orders.{no_way_round}
-use Rattle.runs.specs.declared.journey.Journey.{Journey}
 use Rattle.runs.specs.declared.run.Run.{Run}
-use Rattle.runs.specs.Working.{meaning, boards, plan, plan_of, script_of, journey_state, state_of}
+use Rattle.runs.specs.Working.{meaning, boards, journey_state, state_of}
 use Rattle.runs.specs.Opening.{opening_plan, Begun}
 use Rattle.runs.proofs.Forms.{fresh_plan}
 use Rattle.promises.specs.declared.entry.Entry.{Entry}

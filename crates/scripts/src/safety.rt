@@ -31,6 +31,7 @@ impl Proposal<'_> {
     pub(crate) fn unsafe_step(&self) -> Option<BadStep>
         ensures { MatchOption result (SafeScript (model_of self.now.platform.now).rails (model_of self.now.platform.now).units (value_of self.now.first.now.values) self.now.script.now) (λ b. UnsafeStep (model_of self.now.platform.now) (value_of self.now.first.now.values) self.now.script.now b.step b.bad.unit b.bad.values) }
     {
+        // The steps are counted, and none is read here: a chain would be no plainer.
         for step in 0..self.script.len() {
             if let Some(bad) = lowest_bad(self.platform, &self.spans(step + 1)) {
                 return Some(BadStep { step, bad });

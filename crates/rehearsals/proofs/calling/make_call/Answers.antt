@@ -1,4 +1,4 @@
-use Rattle.std.proofs.Common.{◌≡◌, [], Ok, Err, rules}
+use Rattle.std.proofs.Common.{[], rules}
 use Rattle.std.proofs.lemmas.Result.{MatchResult-weaker}
 use Rattle.runs.proofs.Outcomes.{granted_by, closes}
 use Rattle.rehearsals.proofs.calling.make_call.Goals as goal

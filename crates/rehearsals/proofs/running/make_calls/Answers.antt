@@ -1,4 +1,4 @@
-use Rattle.std.proofs.Common.{◌≡◌, ◌≤◌, length, take, subst, inl, inr, refl, arith}
+use Rattle.std.proofs.Common.{◌≡◌, length, take, subst, inl, inr, refl, arith}
 use Rattle.std.proofs.lemmas.List.{length-take-le}
 use Rattle.histories.specs.declared.run.Call.TheVariants.{Advance}
 use Rattle.runs.proofs.Outcomes.{not_open}

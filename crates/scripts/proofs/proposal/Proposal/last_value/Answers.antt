@@ -1,7 +1,7 @@
 use Rattle.std.proofs.Common.{ap, ◌∙◌}
 use Rattle.platform.specs.Units.{value_of}
 use Rattle.histories.specs.Rails.{end_of}
-use Rattle.openings.proofs.Ends.{end_last}
+use Rattle.histories.proofs.Ends.{end_last}
 use Rattle.scripts.proofs.proposal.Proposal.last_value.Goals as goal
 
 pub returns-then-rail-rails-clause-own : goal.returns-then-rail-rails-clause-own
