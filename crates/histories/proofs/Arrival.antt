@@ -19,7 +19,7 @@ use Rattle.histories.proofs.Ends.{at_end}
 use Rattle.histories.proofs.Due.{due_at, due_most, due_falls, none_due}
 
 -- what holds of each element of a list in two parts
-all_split : {A : Type 0} (P : A → Type 0) (xs ys : List A) → AllByRecursion P (xs ++ ys) → AllByRecursion P xs × AllByRecursion P ys
+pub all_split : {A : Type 0} (P : A → Type 0) (xs ys : List A) → AllByRecursion P (xs ++ ys) → AllByRecursion P xs × AllByRecursion P ys
 all_split P [] ys h = (tt, h)
 all_split P (x ∷ xs) ys h = let w = all_split P xs ys h.1 in ((h.0, w.0), w.1)
 

@@ -48,7 +48,7 @@ due_back_most n p k w rails b (Start r t ∷ rest) ok c = omega (arith, add-mul 
 due_back_most n p k w rails b (Wait r ∷ rest) ok c = omega (arith, add-mul 0 w p)
 
 -- the steps after the first
-drop_next : (k : ℕ) (script : List Step) {s : Step} {rest : List Step} → drop k script ≡ s ∷ rest → drop (suc k) script ≡ rest
+pub drop_next : (k : ℕ) (script : List Step) {s : Step} {rest : List Step} → drop k script ≡ s ∷ rest → drop (suc k) script ≡ rest
 drop_next zero [] e = cc
 drop_next zero (x ∷ xs) e = cc
 drop_next (suc k) [] e = cc

@@ -40,7 +40,7 @@ end_last first [] i = refl
 end_last first (Start r t ∷ rest) i = end_shifted first (Start r t) rest (length rest) i ∙ end_last (λ j. cond (eqb j r) t (first j)) rest i
 end_last first (Wait r ∷ rest) i = end_shifted first (Wait r) rest (length rest) i ∙ end_last first rest i
 
-length_none : (l : List Step) → length l ≡ 0 → l ≡ []
+pub length_none : (l : List Step) → length l ≡ 0 → l ≡ []
 length_none [] e = refl
 length_none (x ∷ l) e = absurd (omega arith)
 

@@ -25,17 +25,17 @@ module _ (n : ℕ) (units : List Device) where
   safe_as a b e s mix h = s mix (λ i l. subst (λ (s : Rail). InSpan s (value_of mix i)) (sym (e i)) (h i l))
 
   -- the moves of a script made singly
-  abbrev apart : List Step → List Step
+  abbrev pub apart : List Step → List Step
   apart [] = []
   apart (Start r t ∷ rest) = Start r t ∷ Wait r ∷ apart rest
   apart (Wait r ∷ rest) = apart rest
 
   -- every step of the script is in form and safe from these rails on
-  abbrev Sound : (ℕ → Rail) → List Step → Type 0
+  abbrev pub Sound : (ℕ → Rail) → List Step → Type 0
   Sound rails script = (k : ℕ) → k ≤ length script → Ready n (drop k script) (from rails script k) × Safe n units (from rails script k)
 
   -- a step that is in form for rails is so for the same rails
-  ready_as : (l : List Step) (a b : ℕ → Rail) → ((i : ℕ) → a i ≡ b i) → Ready n l a → Ready n l b
+  pub ready_as : (l : List Step) (a b : ℕ → Rail) → ((i : ℕ) → a i ≡ b i) → Ready n l a → Ready n l b
   ready_as [] a b e h = λ i l. ((h i l).0, sym (e i) ∙ (h i l).1)
   ready_as (Start r t ∷ rest) a b e h = (h.0, (h.1.0, sym (e r) ∙ h.1.1))
   ready_as (Wait r ∷ rest) a b e h = (h.0, (h.1.0, h.1.1, sym (e r) ∙ h.1.2))
@@ -74,7 +74,7 @@ module _ (n : ℕ) (units : List Device) where
       elim (eqb i r) as (λ b. cond b (Still (end_of (cond b (Moving (m i) t) (Still (m i))))) (cond b (Moving (m i) t) (Still (m i))) ≡ Still (cond b t (m i))) [ true ↦ refl | false ↦ refl ]
 
   -- the moves made singly are safe
-  apart_safe : (script : List Step) (rails : ℕ → Rail) (m : ℕ → ℕ) → Sound rails script → ((i : ℕ) → i < n → m i ≡ end_of (rails i))
+  pub apart_safe : (script : List Step) (rails : ℕ → Rail) (m : ℕ → ℕ) → Sound rails script → ((i : ℕ) → i < n → m i ≡ end_of (rails i))
       → (k : ℕ) → k ≤ length (apart script) → Safe n units (from (λ i. Still (m i)) (apart script) k)
   apart_safe [] rails m h e zero l = still_safe rails m e (h 0 (omega arith)).1
   apart_safe [] rails m h e (suc k) l = absurd (omega arith)

@@ -21,7 +21,7 @@ AllInModes n units moments = AllByRecursion (λ m. InModes units (mix_of n m.val
 abbrev pub Ungranted : Outcome → Type 0
 Ungranted (Answered a) = Unit {0}
 Ungranted Granted = ⊥
-Ungranted (Refused n) = Unit {0}
+Ungranted (Refused fault) = Unit {0}
 
 -- how many of the calls are advances
 abbrev pub advances : List Call → ℕ

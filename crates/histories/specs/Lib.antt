@@ -1,3 +1,4 @@
+pub mod Faults
 pub mod Rails
 pub mod Spans
 pub mod Plans

@@ -5,6 +5,11 @@ use Rattle.histories.specs.declared.rail.Rail.TheVariants.{Still, Moving}
 use Rattle.histories.specs.declared.step.Step.{Step}
 use Rattle.histories.specs.declared.step.Step.TheVariants.{Start, Wait}
 
+-- the rail that a step starts or waits for
+abbrev pub rail_of : Step → ℕ
+rail_of (Start r t) = r
+rail_of (Wait r) = r
+
 -- the value that a rail comes to
 abbrev pub end_of : Rail → ℕ
 end_of (Still v) = v

@@ -1,6 +1,7 @@
 -- What each call makes of a run and its board, and histories of calls. Assumes nothing.
 use Rattle.std.specs.Prelude.{◌≡◌, ℕ, zero, suc, ◌<◌, true, false, ◌⊎◌, List, [], ◌∷◌, ◌++◌, length, drop}
 use Rattle.boards.specs.Meaning.{Meaning, Started, Polled}
+use Rattle.histories.specs.declared.fault.RunFault.TheVariants.{Between}
 use Rattle.histories.specs.declared.rail.Rail.{Rail}
 use Rattle.histories.specs.declared.rail.Rail.TheVariants.{Still, Moving}
 use Rattle.histories.specs.declared.run.Answer.{Answer}
@@ -68,7 +69,7 @@ pub data Called (q : Plan) : State → Call → Outcome → List Meaning → Sta
   -- a close is granted at either end of the script
   closed : {k : ℕ} {d : Direction} {b : Meaning} → (k ≡ 0) ⊎ (k ≡ length q.script) → Called q (at k d b) Close Granted [] (shut b)
   -- and refused between them
-  kept_open : {k : ℕ} {d : Direction} {b : Meaning} → 0 < k → k < length q.script → Called q (at k d b) Close (Refused 22) [] (at k d b)
+  kept_open : {k : ℕ} {d : Direction} {b : Meaning} → 0 < k → k < length q.script → Called q (at k d b) Close (Refused Between) [] (at k d b)
 
 -- calls one after another, with their outcomes and all moments from the first state's on
 pub data History (q : Plan) : State → List Call → List Outcome → List Meaning → State → Type 0 where

@@ -1,13 +1,14 @@
 // What is asked of a run, and what comes of it.
+use crate::fault::RunFault;
 
 // Forward goes to the script's last mix, backward to the first.
-#[derive(Clone, Copy)]
+#[derive(Clone, Copy, Debug, PartialEq, Eq)]
 pub enum Direction {
     Forward,
     Backward,
 }
 
-#[derive(Clone, Copy)]
+#[derive(Clone, Copy, Debug, PartialEq, Eq)]
 pub enum Call {
     Advance,
     Turn,
@@ -15,17 +16,17 @@ pub enum Call {
 }
 
 // The place has moved by one, the rail is still on its way, or the run is at its end.
-#[derive(Clone, Copy)]
+#[derive(Clone, Copy, Debug, PartialEq, Eq)]
 pub enum Answer {
     Moved,
     Waiting,
     Arrived,
 }
 
-// An advance's answer, a granted turn or close, or a refusal's number.
-#[derive(Clone, Copy)]
+// An advance's answer, a granted turn or close, or a refusal.
+#[derive(Clone, Copy, Debug, PartialEq, Eq)]
 pub enum Outcome {
     Answered(Answer),
     Granted,
-    Refused(u8),
+    Refused(RunFault),
 }

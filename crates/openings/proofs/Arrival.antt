@@ -13,16 +13,12 @@ use Rattle.histories.specs.declared.run.Outcome.TheVariants.{Answered}
 use Rattle.openings.specs.Plans.{Plan, steps_left}
 use Rattle.openings.specs.Runs.{Works, meanings, State, at, shut, Advanced, start_ahead, wait_ahead, still_ahead, end_ahead, wait_back, start_back, still_back, end_back, Called, advanced, turned, closed, kept_open, History, begun, then}
 use Rattle.openings.specs.Laws.{Ungranted, advances, AtEnd, Reaches, Arrives}
+use Rattle.histories.proofs.Arrival.{all_split}
 use Rattle.openings.proofs.Opening.{Ground, ground}
 use Rattle.openings.proofs.Kept.{Keeps}
 use Rattle.openings.proofs.Safety.{call_keeps, history_keeps, begins_keeps}
 use Rattle.openings.proofs.Ends.{at_end}
 use Rattle.openings.proofs.Due.{due_at, due_most, due_falls, none_due}
-
--- what holds of each element of a list in two parts
-all_split : {A : Type 0} (P : A → Type 0) (xs ys : List A) → AllByRecursion P (xs ++ ys) → AllByRecursion P xs × AllByRecursion P ys
-all_split P [] ys h = (tt, h)
-all_split P (x ∷ xs) ys h = let w = all_split P xs ys h.1 in ((h.0, w.0), w.1)
 
 -- the advances of a list in two parts
 advances-++ : (xs ys : List Call) → advances (xs ++ ys) ≡ advances xs + advances ys

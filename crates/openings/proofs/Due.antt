@@ -11,6 +11,7 @@ use Rattle.histories.specs.declared.step.Step.TheVariants.{Start, Wait}
 use Rattle.histories.specs.Rails.{Ready}
 use Rattle.openings.specs.Plans.{Plan, rails_at, waits, leads_start, starts_before, steps_left, waits_left}
 use Rattle.openings.specs.Runs.{meanings, State, at, shut, Advanced, start_ahead, wait_ahead, still_ahead, end_ahead, wait_back, start_back, still_back, end_back}
+use Rattle.histories.proofs.Due.{drop_next}
 use Rattle.openings.proofs.Opening.{Ground}
 use Rattle.openings.proofs.Kept.{Kept, Keeps}
 
@@ -47,13 +48,6 @@ due_back_most : (n p k w : ℕ) (rails : ℕ → Rail) (b : Meaning) (l : List S
 due_back_most n p k w rails b [] ok c = omega (arith, add-mul 0 w p)
 due_back_most n p k w rails b (Start r t ∷ rest) ok c = omega (arith, add-mul 1 w p, c r ok.0)
 due_back_most n p k w rails b (Wait r ∷ rest) ok c = omega (arith, add-mul 0 w p)
-
--- the steps after the first
-drop_next : (k : ℕ) (script : List Step) {s : Step} {rest : List Step} → drop k script ≡ s ∷ rest → drop (suc k) script ≡ rest
-drop_next zero [] e = cc
-drop_next zero (x ∷ xs) e = cc
-drop_next (suc k) [] e = cc
-drop_next (suc k) (x ∷ xs) e = drop_next k xs e
 
 module _ {units : List Device} {q : Plan} (o : Ground units q) where
   pub due_most : (k : ℕ) (d : Direction) (b : Meaning) → Kept q k d b → due q k d b ≤ steps_left q k d + waits_left q k d * q.patience

@@ -1,6 +1,5 @@
 -- What a run keeps at each place: every still rail at its value, every moving rail between its ends and sent to one. Assumes nothing.
-use Rattle.std.proofs.Common.{◌≡◌, ℕ, suc, ◌<◌, ◌≤◌, ◌≢◌, List, ◌∷◌, length, drop, sym, refl, ap, ◌∙◌, subst, arith, length-drop, eq-eqb, ne_eqb}
-use native.Mathlib.Decide.{ℕ_discrete}
+use Rattle.std.proofs.Common.{◌≡◌, ℕ, suc, ◌<◌, ◌≤◌, ◌≢◌, List, length, drop, sym, refl, ap, ◌∙◌, subst, arith}
 use Rattle.platform.specs.Units.{Device}
 use Rattle.boards.specs.Meaning.{Meaning, Between, Started, Polled}
 use Rattle.histories.specs.declared.rail.Rail.{Rail}
@@ -9,11 +8,11 @@ use Rattle.histories.specs.declared.run.Answer.{Answer}
 use Rattle.histories.specs.declared.run.Direction.{Direction}
 use Rattle.histories.specs.declared.run.Direction.TheVariants.{Forward, Backward}
 use Rattle.histories.specs.declared.step.Step.{Step}
-use Rattle.histories.specs.declared.step.Step.TheVariants.{Start, Wait}
 use Rattle.histories.specs.Rails.{origin_of, stepped, Ready}
 use Rattle.histories.specs.Spans.{InSpan}
 use Rattle.openings.specs.Plans.{Plan, rails_at}
 use Rattle.openings.specs.Runs.{meanings, State, at, shut, Advanced, start_ahead, wait_ahead, still_ahead, end_ahead, wait_back, start_back, still_back, end_back, towards}
+use Rattle.histories.proofs.Kept.{by_rail, start_here, start_there, wait_here, wait_there, room}
 use Rattle.openings.proofs.Opening.{Ground}
 
 -- a rail with this value and target, as the run has it
@@ -32,10 +31,6 @@ abbrev pub Keeps : Plan → State Meaning → Type 0
 Keeps q (at k d b) = Kept q k d b
 Keeps q (shut b) = Unit {0}
 
--- at rail r, and at every other rail
-pub by_rail : (P : ℕ → Type 0) (n r : ℕ) → P r → ((i : ℕ) → i < n → i ≢ r → P i) → (i : ℕ) → i < n → P i
-by_rail P n r here there i h = elim (ℕ_discrete i r) [ yes e ↦ subst P (sym e) here | no ne ↦ there i h ne ]
-
 -- it has a value in its span
 pub holds_span : (d : Direction) (s : Rail) (x g : ℕ) → Holds d s x g → InSpan s x
 holds_span d (Still v) x g h = h.0
@@ -50,23 +45,6 @@ holds_polled Backward (Moving o t) x g x' g' h b e = (omega arith, omega arith)
 -- the same rail, value and target, however given
 pub holds_as : (d : Direction) {s s' : Rail} {x x' g g' : ℕ} → Holds d s x g → s' ≡ s → x' ≡ x → g' ≡ g → Holds d s' x' g'
 holds_as d h es ex eg = rw (es, ex, eg) h
-
--- one step more, at its rail and at another
-pub start_here : (rails : ℕ → Rail) (r t v : ℕ) (rest : List Step) → rails r ≡ Still v → stepped (Start r t ∷ rest) rails r ≡ Moving v t
-start_here rails r t v rest h = rw (eq-eqb r r refl, h)
-
-pub start_there : (rails : ℕ → Rail) (r t i : ℕ) (rest : List Step) → i ≢ r → stepped (Start r t ∷ rest) rails i ≡ rails i
-start_there rails r t i rest ne = rw (ne_eqb i r ne)
-
-pub wait_here : (rails : ℕ → Rail) (r o t : ℕ) (rest : List Step) → rails r ≡ Moving o t → stepped (Wait r ∷ rest) rails r ≡ Still t
-wait_here rails r o t rest h = rw (eq-eqb r r refl, h)
-
-pub wait_there : (rails : ℕ → Rail) (r i : ℕ) (rest : List Step) → i ≢ r → stepped (Wait r ∷ rest) rails i ≡ rails i
-wait_there rails r i rest ne = rw (ne_eqb i r ne)
-
--- where there is a step, there is a place after it
-pub room : (k : ℕ) (script : List Step) {s : Step} {rest : List Step} → drop k script ≡ s ∷ rest → suc k ≤ length script
-room k script e = omega (arith, length-drop k script, ap length e)
 
 module _ {units : List Device} {q : Plan} (o : Ground units q) where
   -- the rails one place on

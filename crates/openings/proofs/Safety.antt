@@ -18,7 +18,8 @@ use Rattle.openings.specs.Runs.{meanings, State, Advanced, start_ahead, wait_ahe
 use Rattle.openings.specs.Laws.{AllInModes, Begins, SafeThroughout}
 use Rattle.histories.proofs.Spans.{mix_in_spans}
 use Rattle.openings.proofs.Opening.{Ground, ground, safe_at}
-use Rattle.openings.proofs.Kept.{Holds, Kept, Keeps, by_rail, holds_span, holds_as, advance_keeps}
+use Rattle.histories.proofs.Kept.{by_rail}
+use Rattle.openings.proofs.Kept.{Holds, Kept, Keeps, holds_span, holds_as, advance_keeps}
 
 -- with the first i rails sent to the ends of d, and the others still to those of d'
 record Turning (n p : ℕ) (rails : ℕ → Rail) (d d' : Direction) (i : ℕ) (ms : List Meaning) (b : Meaning) : Type 0 where

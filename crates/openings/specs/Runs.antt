@@ -1,6 +1,7 @@
 -- What each call makes of a run and its board, and histories of calls. Assumes nothing.
 use Rattle.std.specs.Prelude.{◌≡◌, ℕ, zero, suc, ◌<◌, Bool, true, false, ◌⊎◌, List, [], ◌∷◌, ◌++◌, length, drop}
 use Rattle.boards.specs.Meaning.{Meaning, Started, Polled}
+use Rattle.histories.specs.declared.fault.RunFault.TheVariants.{Between}
 use Rattle.histories.specs.declared.rail.Rail.{Rail}
 use Rattle.histories.specs.declared.rail.Rail.TheVariants.{Still, Moving}
 use Rattle.histories.specs.declared.run.Answer.{Answer}
@@ -77,7 +78,7 @@ pub data Called {X : Type 0} (w : Works X) (q : Plan) : State X → Call → Out
   -- a close is granted at either end of the script
   closed : {k : ℕ} {d : Direction} {b : X} → (k ≡ 0) ⊎ (k ≡ length q.script) → Called w q (at k d b) Close Granted [] (shut b)
   -- and refused between them
-  kept_open : {k : ℕ} {d : Direction} {b : X} → 0 < k → k < length q.script → Called w q (at k d b) Close (Refused 22) [] (at k d b)
+  kept_open : {k : ℕ} {d : Direction} {b : X} → 0 < k → k < length q.script → Called w q (at k d b) Close (Refused Between) [] (at k d b)
 
 -- the board of a run, open or closed
 abbrev pub board_of : {X : Type 0} → State X → X

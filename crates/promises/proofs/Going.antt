@@ -1,5 +1,5 @@
 -- One call more of a run that is under way on the board it was opened on. Assumes nothing.
-use Rattle.std.proofs.Common.{◌≡◌, ℕ, List, [], ◌∷◌, ◌++◌, take, sym, refl, ap, ◌∙◌, subst, arith}
+use Rattle.std.proofs.Common.{◌≡◌, ℕ, List, [], ◌∷◌, ◌++◌, Some, None, sym, refl, ap, ◌∙◌, subst, arith}
 use Rattle.platform.specs.Units.{value_of}
 use Rattle.boards.specs.declared.meaning.Board.{Ghosts}
 use Rattle.histories.specs.declared.run.Call.{Call}
@@ -11,7 +11,7 @@ use Rattle.openings.specs.Openings.{Suits}
 use Rattle.openings.specs.Runs.{State, at, board_of, Called, advanced, turned, closed, kept_open, History, then}
 use Rattle.runs.specs.declared.journey.Journey.{Journey}
 use Rattle.runs.specs.declared.run.Run.{Run}
-use Rattle.runs.specs.declared.run.Run.TheVariants.{Empty, Open}
+use Rattle.runs.specs.Steps.{steps_of}
 use Rattle.runs.specs.Working.{boards, plan_of, script_of, journey_state, state_of, Same, SameRun, Ran, unsuited, made}
 use Rattle.runs.specs.Opening.{IsOpen}
 use Rattle.promises.specs.Notes.{Alongside, WorkedOut}
@@ -27,14 +27,14 @@ worked_out (closed h) = tt
 worked_out (kept_open lo hi) = refl
 
 pub board_state : {B : Type 0} (run : Run) (b : B) → board_of (state_of run b) ≡ b
-board_state (Open j) b = refl
-board_state Empty b = refl
+board_state (Some j) b = refl
+board_state None b = refl
 
 module _ {B : Type 0} (make : Ghosts B) (q : Plan) (ok : Suits q q.rails) (b₀ : B) where
   -- an open run holds the plan, on a board that fits it
   abbrev pub Held : Run → B → Type 0
-  Held (Open j) b = (plan_of make j b ≡ q) × (make.rails b ≡ q.rails)
-  Held Empty b = Unit {0}
+  Held (Some j) b = (plan_of make j b ≡ q) × (make.rails b ≡ q.rails)
+  Held None b = Unit {0}
 
   -- these calls lead from the opening to this run and board
   pub record Reached (calls : List Call) (outs : List Outcome) (left : List B) (run : Run) (b : B) : Type 0 where
@@ -50,12 +50,11 @@ module _ {B : Type 0} (make : Ghosts B) (q : Plan) (ok : Suits q q.rails) (b₀ 
       ap (λ n. mk n (make.patience b') (value_of j'.first.values) (script_of j')) s.rails
       ∙ ap (λ p. mk j.rails p (value_of j'.first.values) (script_of j')) e
       ∙ ap (λ m. mk j.rails (make.patience b) (value_of m.values) (script_of j')) s.first
-      ∙ ap (λ n. mk j.rails (make.patience b) (value_of j.first.values) (take n j'.steps)) s.count
-      ∙ ap (λ l. mk j.rails (make.patience b) (value_of j.first.values) (take j.count l)) s.steps
+      ∙ ap (λ l. mk j.rails (make.patience b) (value_of j.first.values) (steps_of l)) s.steps
 
   still_held : (j : Journey) (b b' : B) (run' : Run) → plan_of make j b ≡ q → Fits make q b → Fits make q b' → SameRun j run' → Held run' b'
-  still_held j b b' (Open j') e f f' s = (same_plan j j' b b' s (f'.1 ∙ sym f.1) ∙ e, f'.0)
-  still_held j b b' Empty e f f' s = tt
+  still_held j b b' (Some j') e f f' s = (same_plan j j' b b' s (f'.1 ∙ sym f.1) ∙ e, f'.0)
+  still_held j b b' None e f f' s = tt
 
   -- what one more call leaves
   pub record More (calls : List Call) (outs : List Outcome) (left : List B) (call : Call) (out : Outcome) (run : Run) (b : B) : Type 0 where
@@ -65,10 +64,10 @@ module _ {B : Type 0} (make : Ghosts B) (q : Plan) (ok : Suits q q.rails) (b₀ 
 
   pub one_more : {calls : List Call} {outs : List Outcome} {left ms : List B} {call : Call} {out : Outcome} (run run' : Run) (b b' : B)
       → IsOpen run → Held run b → Reached calls outs left run b → Ran make run b call out ms run' b' → More calls outs left call out run' b'
-  one_more Empty run' b b' o h r s = let e = o.1 in let z : ◌≡◌ {A = ℕ} 0 1 = cc in absurd (omega arith)
-  one_more (Open j) run' b b' o h r (unsuited w bad) =
+  one_more None run' b b' o h r s = let e = o.1 in let z : ◌≡◌ {A = ℕ} 0 1 = cc in absurd (omega arith)
+  one_more (Some j) run' b b' o h r (unsuited w bad) =
       absurd (bad (subst (λ p. Suits p (make.rails b)) (sym h.0) (subst (λ n. Suits q n) (sym h.1) ok)))
-  one_more {calls} {outs} {left} {ms} {call} {out} (Open j) run' b b' o h r (made s c same) =
+  one_more {calls} {outs} {left} {ms} {call} {out} (Some j) run' b b' o h r (made s c same) =
       let f : Fits make q b = (h.1, ap (λ (p : Plan). p.patience) h.0) in
       let c' : Called (boards make) q (journey_state j b) call out ms (state_of run' b') = subst (λ p. Called (boards make) p (journey_state j b) call out ms (state_of run' b')) h.0 c in
       let f' : Fits make q b' = subst (Fits make q) (board_state run' b') (called_fits make q f c') in

@@ -14,10 +14,10 @@ use Rattle.openings.specs.Laws.{Begins}
 use Rattle.openings.proofs.Safety.{safe_throughout}
 use Rattle.openings.proofs.Arrival.{reaches, called_told}
 use Rattle.openings.proofs.Orders.{no_way_round}
-use Rattle.runs.specs.declared.journey.Journey.{Journey}
 use Rattle.runs.specs.declared.run.Run.{Run}
-use Rattle.runs.specs.Working.{meaning, boards, plan, plan_of, script_of, journey_state, state_of}
-use Rattle.runs.specs.Opening.{opening_plan, Fresh, Begun}
+use Rattle.runs.specs.Working.{meaning, boards, journey_state, state_of}
+use Rattle.runs.specs.Opening.{opening_plan, Begun}
+use Rattle.runs.proofs.Forms.{fresh_plan}
 use Rattle.promises.specs.declared.entry.Entry.{Entry}
 use Rattle.promises.specs.Notes.{outcomes}
 use Rattle.promises.specs.Chains.{Whole, Noted}
@@ -39,14 +39,8 @@ module _ {B : Type 0} (make : Ghosts B) (m : Model) (first : Mix) (script : List
   suits = record { counted = refl; values = opened.suits.values; targets = opened.suits.targets }
 
   -- a run that has just begun holds the plan
-  fresh_plan : (j : Journey) → Fresh m.rails first script j → plan_of make j b ≡ opening_plan make m first script b
-  fresh_plan j f =
-      ap (λ n. plan make n j.first.values (script_of j) b) f.rails
-      ∙ ap (λ x. plan make m.rails x.values (script_of j) b) f.first_is
-      ∙ ap (λ s. plan make m.rails first.values s b) f.script_is
-
   pub begun_held : (run : Run) → Begun m.rails first script run → Held make (opening_plan make m first script b) suits b run b
-  begun_held run w = subst (λ r. Held make (opening_plan make m first script b) suits b r b) (sym w.is) (fresh_plan w.journey w.fresh, opened.suits.counted)
+  begun_held run w = subst (λ r. Held make (opening_plan make m first script b) suits b r b) (sym w.is) (fresh_plan make m.rails first script w.journey b w.fresh, opened.suits.counted)
 
   begun_reached : (run : Run) → Begun m.rails first script run → Reached make (opening_plan make m first script b) suits b [] [] [] run b
   begun_reached run w =

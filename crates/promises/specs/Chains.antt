@@ -1,10 +1,9 @@
 -- Calls made one after another on a run and a board. Assumes nothing.
-use Rattle.std.specs.Prelude.{◌≡◌, ℕ, ◌≤◌, min, ◌⊎◌, List, [], ◌∷◌, ◌++◌, length, take, drop}
+use Rattle.std.specs.Prelude.{◌≡◌, ℕ, ◌≤◌, min, ◌⊎◌, List, [], ◌∷◌, ◌++◌, length, take, drop, None}
 use Rattle.boards.specs.declared.meaning.Board.{Ghosts}
 use Rattle.histories.specs.declared.run.Call.{Call}
 use Rattle.histories.specs.declared.run.Outcome.{Outcome}
 use Rattle.runs.specs.declared.run.Run.{Run}
-use Rattle.runs.specs.declared.run.Run.TheVariants.{Empty}
 use Rattle.runs.specs.Working.{Ran}
 use Rattle.runs.specs.Opening.{IsOpen}
 use Rattle.promises.specs.declared.entry.Entry.{Entry}
@@ -18,7 +17,7 @@ pub data Chain {B : Type 0} (make : Ghosts B) (run : Run) (b : B) : List Call �
 
 -- as many calls as there were and as the log had room for were made and noted, or so many up to a granted close
 abbrev pub Whole : List Call → List Entry → ℕ → Run → Type 0
-Whole calls log n run = (n ≡ min (length calls) (length log)) ⊎ ((n ≤ min (length calls) (length log)) × (run ≡ Empty))
+Whole calls log n run = (n ≡ min (length calls) (length log)) ⊎ ((n ≤ min (length calls) (length log)) × (run ≡ None))
 
 -- n calls were made and noted
 pub record Noted {B : Type 0} (make : Ghosts B) (run : Run) (b : B) (calls : List Call) (old log : List Entry) (n : ℕ) (run' : Run) (b' : B) : Type 0 where

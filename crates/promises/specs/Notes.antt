@@ -2,6 +2,7 @@
 use Rattle.std.specs.Prelude.{◌≡◌, ℕ, ◌<◌, List, [], ◌∷◌, map}
 use Rattle.platform.specs.Units.{value_of}
 use Rattle.boards.specs.declared.meaning.Board.{Ghosts}
+use Rattle.histories.specs.declared.fault.RunFault.TheVariants.{Between}
 use Rattle.histories.specs.declared.run.Call.{Call}
 use Rattle.histories.specs.declared.run.Call.TheVariants.{Advance, Turn, Close}
 use Rattle.histories.specs.declared.run.Outcome.{Outcome}
@@ -23,14 +24,14 @@ outcomes log = map (λ e. e.outcome) log
 abbrev pub Shows : {B : Type 0} → Ghosts B → Entry → B → Type 0
 Shows make e b = (i : ℕ) → i < make.rails b → value_of e.values i ≡ make.value b i
 
--- only a close is refused
+-- only a close is refused, between the ends of the script
 abbrev pub WorkedOut : Call → Outcome → Type 0
 WorkedOut Advance (Answered a) = Unit {0}
 WorkedOut Advance Granted = ⊥
-WorkedOut Advance (Refused n) = ⊥
+WorkedOut Advance (Refused fault) = ⊥
 WorkedOut Turn (Answered a) = ⊥
 WorkedOut Turn Granted = Unit {0}
-WorkedOut Turn (Refused n) = ⊥
+WorkedOut Turn (Refused fault) = ⊥
 WorkedOut Close (Answered a) = ⊥
 WorkedOut Close Granted = Unit {0}
-WorkedOut Close (Refused n) = n ≡ 22
+WorkedOut Close (Refused fault) = fault ≡ Between

@@ -1,5 +1,5 @@
 // One call on a run, by its name, and what is noted of it.
-ghost use Rattle.std.specs.Prelude.{◌≡◌, List};
+ghost use Rattle.std.specs.Prelude.{◌≡◌, ◌<◌, List};
 ghost use Rattle.runs.specs.Working.{Ran};
 ghost use Rattle.promises.specs.Notes.{Shows};
 
@@ -7,24 +7,33 @@ use boards::Board;
 use histories::{Call, Outcome};
 use promises::Entry;
 use runs::Run;
+use std::array;
 
 // Makes a call and tells its outcome.
 pub fn make_call<B: Board>(run: &mut Run, board: &mut B, call: Call) -> Outcome
     ensures { (moments : List B) × Ran B.Board run.old board.old call result moments run.new board.new }
 {
     match call {
-        Call::Advance => match run.advance(board) {
-            Ok(answer) => Outcome::Answered(answer),
-            Err(fault) => Outcome::Refused(fault.number()),
-        },
-        Call::Turn => match run.turn(board) {
-            Ok(()) => Outcome::Granted,
-            Err(fault) => Outcome::Refused(fault.number()),
-        },
-        Call::Close => match run.close() {
-            Ok(()) => Outcome::Granted,
-            Err(fault) => Outcome::Refused(fault.number()),
-        },
+        Call::Advance => run
+            .advance(board)
+            .map_or_else(Outcome::Refused, Outcome::Answered),
+        Call::Turn => run
+            .turn(board)
+            .map_or_else(Outcome::Refused, |()| Outcome::Granted),
+        Call::Close => run
+            .close()
+            .map_or_else(Outcome::Refused, |()| Outcome::Granted),
+    }
+}
+
+// A rail's value on a board, 0 past its last rail.
+fn value_on<B: Board>(board: &B, rail: usize) -> u16
+    requires { rail < 24 }
+    ensures { rail < B.Board.rails board.now → result ≡ B.Board.value board.now rail }
+{
+    match board.look(rail as u8) {
+        Ok((value, _)) => value,
+        Err(_) => 0,
     }
 }
 
@@ -33,12 +42,6 @@ pub(crate) fn note<B: Board>(board: &B, outcome: Outcome) -> Entry
     ensures outcome { result.outcome ≡ outcome }
     ensures shows { Shows B.Board result board.now }
 {
-    let mut values = [0; 24];
-    for rail in 0..board.count() {
-        let Ok((value, _)) = board.look(rail) else {
-            unreachable()
-        };
-        values[rail as usize] = value;
-    }
+    let values = array::from_fn(|rail| value_on(board, rail));
     Entry { outcome, values }
 }

@@ -6,10 +6,10 @@ ghost use Rattle.promises.specs.Promise.{Rehearses};
 
 use crate::calling::{make_call, note};
 use boards::Board;
-use histories::{Call, Step};
-use platform::{Mix, Platform};
+use histories::Call;
 use promises::Entry;
 use runs::{OpenFault, Run};
+use scripts::Proposal;
 
 // Makes the calls on an open run, up to the first granted close, as far as the log has room.
 fn make_calls<B: Board>(run: &mut Run, board: &mut B, calls: &[Call], log: &mut [Entry]) -> usize
@@ -18,10 +18,10 @@ fn make_calls<B: Board>(run: &mut Run, board: &mut B, calls: &[Call], log: &mut 
     ensures noted { Noted B.Board run.old board.old calls.now log.old log.new result run.new board.new }
 {
     let room = calls.len().min(log.len());
-    for i in 0..room {
-        let outcome = make_call(run, board, calls[i]);
+    for (i, call) in calls[..room].iter().enumerate() {
+        let outcome = make_call(run, board, *call);
         log[i] = note(board, outcome);
-        if let Run::Empty = *run {
+        if !run.is_open() {
             return i + 1;
         }
     }
@@ -31,15 +31,13 @@ fn make_calls<B: Board>(run: &mut Run, board: &mut B, calls: &[Call], log: &mut 
 // Opens an empty run and makes the calls on it. The answer is how many were made; the log has what came of each.
 pub fn rehearse<B: Board>(
     run: &mut Run,
-    platform: &Platform,
-    first: &Mix,
-    script: &[Step],
+    proposal: &Proposal,
     board: &mut B,
     calls: &[Call],
     log: &mut [Entry],
 ) -> Result<usize, OpenFault>
-    ensures { Rehearses B.Board (model_of platform.now) run.old first.now script.now board.old calls.now log.old result run.new board.new log.new }
+    ensures { Rehearses B.Board (model_of proposal.now.platform.now) run.old proposal.now.first.now proposal.now.script.now board.old calls.now log.old result run.new board.new log.new }
 {
-    run.open(platform, first, script, board)?;
+    run.open(proposal, board)?;
     Ok(make_calls(run, board, calls, log))
 }

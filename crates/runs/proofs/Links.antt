@@ -1,22 +1,19 @@
 -- The links of a history, from what the code has in hand. Assumes nothing.
 use Rattle.std.proofs.Common.{◌≡◌, ℕ, zero, suc, ◌+◌, ◌-◌, ◌<◌, ◌≤◌, false, List, [], ◌∷◌, length, drop, Some, None, Option, refl, ap, subst, add-one, arith, length-drop}
-use Rattle.std.proofs.ByRecursion.{All-get_or}
-use Rattle.std.proofs.lemmas.List.{length-take-le}
 use Rattle.boards.specs.declared.meaning.Board.{Ghosts}
 use Rattle.histories.specs.declared.run.Answer.TheVariants.{Moved, Waiting, Arrived}
 use Rattle.histories.specs.declared.run.Direction.{Direction}
 use Rattle.histories.specs.declared.run.Direction.TheVariants.{Forward, Backward}
 use Rattle.histories.specs.declared.step.Step.{Step}
 use Rattle.histories.specs.declared.step.Step.TheVariants.{Start, Wait}
-use Rattle.histories.specs.Rails.{origin_of}
+use Rattle.histories.specs.Rails.{rail_of, origin_of}
 use Rattle.openings.specs.Plans.{rails_at}
-use Rattle.openings.specs.Openings.{Low}
 use Rattle.openings.specs.Runs.{at, Advanced, still_ahead, end_ahead, still_back, end_back}
 use Rattle.openings.proofs.Lows.{low_rails}
 use Rattle.runs.specs.declared.journey.Journey.{Journey}
-use Rattle.runs.specs.Journeys.{rail_of, current}
+use Rattle.runs.specs.Journeys.{current}
 use Rattle.runs.specs.Working.{Asked, boards, plan_of, script_of, Same, Suited, Worked}
-use Rattle.runs.proofs.Places.{ahead, behind, none_ahead, step_here, rail_here}
+use Rattle.runs.proofs.Places.{ahead, behind, none_ahead, rail_here}
 
 module _ {B : Type 0} (make : Ghosts B) (j : Journey) (b : B) (fits : Suited make j b) where
   -- the rail of the current step is one of the board's
@@ -27,12 +24,7 @@ module _ {B : Type 0} (make : Ghosts B) (j : Journey) (b : B) (fits : Suited mak
   pub step_rail : (s : Step) → Some s ≡ current (script_of j) j.place j.direction → rail_of s < make.rails b
   step_rail s e = omega (arith, rail_known j.direction s e, fits.counted)
 
-  -- and no start of it goes above the ceiling
-  pub target_low : (r t : ℕ) → j.direction ≡ Forward → Some (Start r t) ≡ current (script_of j) j.place j.direction → t ≤ make.ceiling
-  target_low r t d e =
-      let w = step_here j.place (script_of j) (Start 0 0) (ahead (script_of j) j.place (Start r t) (rw d at e)).1 in
-      rw w.1 at (All-get_or (Low make.ceiling) (script_of j) j.place (Start 0 0) w.0 fits.targets)
-
+  -- and where it comes from is not above the ceiling
   pub origin_low : (r : ℕ) → Some (Wait r) ≡ current (script_of j) j.place j.direction → (k : ℕ) → origin_of (rails_at (plan_of make j b) k r) ≤ make.ceiling
   origin_low r e k = (low_rails (plan_of make j b) fits k r (rail_known j.direction (Wait r) e)).0
 
@@ -58,7 +50,7 @@ module _ {B : Type 0} (make : Ghosts B) (j j' : Journey) (b b' : B) (s : Step) (
 
 -- the same run, at the same place
 same_as : (j : Journey) → Same j j
-same_as j = record { rails = refl; first = refl; count = refl; steps = refl }
+same_as j = record { rails = refl; first = refl; steps = refl }
 
 module _ {B : Type 0} (make : Ghosts B) (j : Journey) (b : B) where
   pub waiting_on : (b' : B) (r : ℕ) → j.direction ≡ Forward → Some (Wait r) ≡ current (script_of j) j.place j.direction → Asked make b r false b' → Worked make j b Waiting j b'
@@ -82,9 +74,9 @@ module _ {B : Type 0} (make : Ghosts B) (j : Journey) (b : B) where
   ended zero Backward le e = end_back
   ended (suc k) Backward le e = absurd (omega (arith, le, ap length (none_ahead (script_of j) k e), length-drop k (script_of j)))
 
-  pub arrived : j.count ≤ length j.steps → ◌≡◌ {A = Option Step} None (current (script_of j) j.place j.direction) → Worked make j b Arrived j b
-  arrived le e = record {
+  pub arrived : ◌≡◌ {A = Option Step} None (current (script_of j) j.place j.direction) → Worked make j b Arrived j b
+  arrived e = record {
     moments = [];
-    advanced = ended j.place j.direction (omega (arith, length-take-le j.count j.steps le, j.within)) e;
+    advanced = ended j.place j.direction j.within e;
     same = same_as j;
   }

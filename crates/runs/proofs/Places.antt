@@ -1,30 +1,10 @@
--- Steps and records by place, as the code reads them. Assumes nothing.
-use Rattle.std.proofs.Common.{◌≡◌, ℕ, zero, suc, ◌+◌, ◌-◌, ◌<◌, ◌≤◌, ◌≢◌, List, [], ◌∷◌, length, get_or, take, drop, set, Some, None, Option, sym, refl, ap, ◌∙◌, subst, add-one, arith, drop_of_length-le, drop-cons, get_or-set_other, get_or-set_same}
-use Rattle.std.proofs.lemmas.List.{length-take-le, get_or-take}
-use Rattle.histories.specs.declared.rail.Rail.{Rail}
-use Rattle.histories.specs.declared.rail.Rail.TheVariants.{Still}
-use Rattle.histories.specs.declared.run.Direction.{Direction}
+-- Steps by place, as the code reads them. Assumes nothing.
+use Rattle.std.proofs.Common.{◌≡◌, ℕ, zero, suc, ◌-◌, ◌<◌, List, [], ◌∷◌, length, get_or, drop, Some, None, Option, refl, ap, subst, arith}
 use Rattle.histories.specs.declared.run.Direction.TheVariants.{Forward, Backward}
 use Rattle.histories.specs.declared.step.Step.{Step}
-use Rattle.histories.specs.declared.step.Step.TheVariants.{Start, Wait}
-use Rattle.histories.specs.Rails.{after, stepped}
-use Rattle.openings.proofs.Kept.{start_there, wait_there, by_rail}
-use Rattle.runs.specs.Journeys.{rail_of, OnRails, record_at, Recorded, leading, current}
-
--- the current step as the code reads it from the first n of its steps
-pub current_ahead : (steps : List Step) (n k : ℕ) (d : Direction) → d ≡ Forward → n ≤ length steps → k < n → Some (get_or steps k (Start 0 0)) ≡ current (take n steps) k d
-current_ahead steps n k d e le lt =
-    rw e (let here : k < length (take n steps) = omega (arith, length-take-le n steps le) in
-    ap Some (sym (get_or-take n steps k (Start 0 0) lt)) ∙ sym (ap leading (drop-cons (take n steps) k (Start 0 0) here)))
-
-pub current_done : (steps : List Step) (n k : ℕ) (d : Direction) → d ≡ Forward → n ≤ length steps → n ≤ k → ◌≡◌ {A = Option Step} None (current (take n steps) k d)
-current_done steps n k d e le ge = rw e (sym (ap leading (drop_of_length-le (take n steps) {i = k} (omega (arith, length-take-le n steps le)))))
-
-pub current_back : (steps : List Step) (n k : ℕ) (d : Direction) → d ≡ Backward → n ≤ length steps → 0 < k → k ≤ n → Some (get_or steps (k - 1) (Start 0 0)) ≡ current (take n steps) k d
-current_back steps n zero d e le h l = absurd (omega arith)
-current_back steps n (suc k) d e le h l =
-    let p : suc k - 1 ≡ k = omega arith in
-    rw (e, p) (current_ahead steps n k Forward refl le l)
+use Rattle.histories.specs.declared.step.Step.TheVariants.{Start}
+use Rattle.histories.specs.Rails.{rail_of}
+use Rattle.runs.specs.Journeys.{OnRails, leading, current}
 
 -- what the current step says of the script
 leading_some : (l : List Step) (s : Step) → Some s ≡ leading l → (rest : List Step) × (l ≡ s ∷ rest)
@@ -56,30 +36,3 @@ step_here (suc k) (x ∷ xs) d e = let w = step_here k xs d e in (omega (arith, 
 
 pub rail_here : (n k : ℕ) (script : List Step) {s : Step} {rest : List Step} → OnRails n script → drop k script ≡ s ∷ rest → rail_of s < n
 rail_here n k script on e = let w = step_here k script (Start 0 0) e in subst (λ x. rail_of x < n) w.1 (on k w.0)
-
--- a rail that a step is not about
-elsewhere : (s : Step) (rest : List Step) (rails : ℕ → Rail) (i : ℕ) → i ≢ rail_of s → stepped (s ∷ rest) rails i ≡ rails i
-elsewhere (Start r t) rest rails i ne = start_there rails r t i rest ne
-elsewhere (Wait r) rest rails i ne = wait_there rails r i rest ne
-
-stepped_one : (s : Step) (rest : List Step) (rails : ℕ → Rail) (i : ℕ) → stepped (s ∷ rest) rails i ≡ stepped (s ∷ []) (λ _. rails i) i
-stepped_one (Start r t) rest rails i = refl
-stepped_one (Wait r) rest rails i = refl
-
--- the records, one step on and one step back
-module _ (n : ℕ) (first : ℕ → ℕ) (script : List Step) (k : ℕ) (records : List Rail) (s : Step) (rest : List Step) (e : drop k script ≡ s ∷ rest) (few : rail_of s < length records) where
-  others : (i : ℕ) → i ≢ rail_of s → after first script (suc k) i ≡ after first script k i
-  others i ne = ap (λ l. stepped l (after first script k) i) e ∙ elsewhere s rest (after first script k) i ne
-
-  pub records_on : (x : Rail) → rail_of s < n → Recorded n first script k records → x ≡ stepped (s ∷ []) (λ _. record_at records (rail_of s)) (rail_of s) → Recorded n first script (k + 1) (set records (rail_of s) x)
-  records_on x lt t ex =
-      rw (add-one k) (by_rail (λ i. record_at (set records (rail_of s) x) i ≡ after first script (suc k) i) n (rail_of s)
-      (get_or-set_same records (rail_of s) x (Still 0) few ∙ ex ∙ ap (λ y. stepped (s ∷ []) (λ _. y) (rail_of s)) (t (rail_of s) lt)
-      ∙ sym (ap (λ l. stepped l (after first script k) (rail_of s)) e ∙ stepped_one s rest (after first script k) (rail_of s)))
-      (λ i l ne. get_or-set_other records (rail_of s) i x (Still 0) ne ∙ t i l ∙ sym (others i ne)))
-
-  pub records_back : (x : Rail) → Recorded n first script (suc k) records → x ≡ after first script k (rail_of s) → Recorded n first script k (set records (rail_of s) x)
-  records_back x t ex =
-      by_rail (λ i. record_at (set records (rail_of s) x) i ≡ after first script k i) n (rail_of s)
-      (get_or-set_same records (rail_of s) x (Still 0) few ∙ ex)
-      (λ i l ne. get_or-set_other records (rail_of s) i x (Still 0) ne ∙ t i l ∙ others i ne)

@@ -5,13 +5,8 @@ use Rattle.histories.specs.declared.rail.Rail.TheVariants.{Still}
 use Rattle.histories.specs.declared.run.Direction.{Direction}
 use Rattle.histories.specs.declared.run.Direction.TheVariants.{Forward, Backward}
 use Rattle.histories.specs.declared.step.Step.{Step}
-use Rattle.histories.specs.declared.step.Step.TheVariants.{Start, Wait}
-use Rattle.histories.specs.Rails.{after}
-
--- the rail that a step starts or waits for
-abbrev pub rail_of : Step → ℕ
-rail_of (Start r t) = r
-rail_of (Wait r) = r
+use Rattle.histories.specs.declared.step.Step.TheVariants.{Start}
+use Rattle.histories.specs.Rails.{rail_of, after}
 
 -- each step is about one of the first n rails
 abbrev pub OnRails : ℕ → List Step → Type 0

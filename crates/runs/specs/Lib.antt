@@ -1,3 +1,4 @@
+pub mod Steps
 pub mod Journeys
 pub mod Working
 pub mod Faults

@@ -5,7 +5,6 @@ use crate::journey::Journey;
 use crate::work::{ask, send};
 use boards::Board;
 use histories::{Answer, Direction, Step};
-use scripts::origin_of;
 
 impl Journey {
     // Does the step at the place, or undoes the last one done, unless a poll says that the rail is not there yet.
@@ -13,32 +12,34 @@ impl Journey {
         requires { Suited B.Board self.old board.old }
         ensures { Worked B.Board self.old board.old result self.new board.new }
     {
-        match (self.direction, self.current()) {
-            (Direction::Forward, Some(Step::Start { rail, target })) => {
+        let Some(step) = self.current() else {
+            return Answer::Arrived;
+        };
+        match (self.direction, step) {
+            (Direction::Forward, Step::Start { rail, target }) => {
                 send(board, rail, target);
-                self.go_on(Step::Start { rail, target });
+                self.go_on(step);
                 Answer::Moved
             }
-            (Direction::Forward, Some(Step::Wait { rail })) => {
+            (Direction::Forward, Step::Wait { rail }) => {
                 if !ask(board, rail) {
                     return Answer::Waiting;
                 }
-                self.go_on(Step::Wait { rail });
+                self.go_on(step);
                 Answer::Moved
             }
-            (Direction::Backward, Some(Step::Wait { rail })) => {
-                send(board, rail, origin_of(self.before(rail)));
-                self.go_back(Step::Wait { rail });
+            (Direction::Backward, Step::Wait { rail }) => {
+                send(board, rail, self.before(rail).origin());
+                self.go_back(step);
                 Answer::Moved
             }
-            (Direction::Backward, Some(Step::Start { rail, target })) => {
+            (Direction::Backward, Step::Start { rail, .. }) => {
                 if !ask(board, rail) {
                     return Answer::Waiting;
                 }
-                self.go_back(Step::Start { rail, target });
+                self.go_back(step);
                 Answer::Moved
             }
-            (_, None) => Answer::Arrived,
         }
     }
 }

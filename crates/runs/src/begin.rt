@@ -1,55 +1,27 @@
 // How an open run begins: its own copy of the script, and every rail standing at its first value.
-ghost use Rattle.std.specs.Prelude.{◌≡◌, ℕ, ◌<◌, ◌≤◌, length, take};
 ghost use Rattle.platform.specs.Units.{value_of};
-ghost use Rattle.histories.specs.declared.rail.Rail.TheVariants.{Still};
-ghost use Rattle.runs.specs.Journeys.{OnRails, record_at};
+ghost use Rattle.openings.specs.Openings.{Formed};
 ghost use Rattle.runs.specs.Opening.{Fresh};
 
 use crate::journey::Journey;
-use histories::{Direction, Rail, Step};
-use platform::Mix;
+use crate::steps::Steps;
+use histories::{Direction, Rail};
+use scripts::Proposal;
 
-// The steps, with room for 64.
-fn copied(script: &[Step]) -> [Step; 64]
-    requires { length script.now ≤ 64 }
-    ensures sized { length result ≡ 64 }
-    ensures same { take (length script.now) result ≡ script.now }
-{
-    let mut steps = [Step::Wait { rail: 0 }; 64];
-    for k in 0..script.len() {
-        steps[k] = script[k];
-    }
-    steps
-}
-
-// The records of rails that all stand at their first values.
-fn stood(first: &Mix) -> [Rail; 24]
-    ensures sized { length result ≡ 24 }
-    ensures still { (i : ℕ) → i < 24 → record_at result i ≡ Still (value_of first.now.values i) }
-{
-    let mut records = [Rail::Still { value: 0 }; 24];
-    for rail in 0..24 {
-        records[rail] = Rail::Still {
-            value: first.values[rail],
-        };
-    }
-    records
-}
-
-// A run at step 0, going forward.
-pub(crate) fn begun(rails: u8, first: &Mix, script: &[Step]) -> Journey
-    requires few { rails ≤ 24 }
-    requires short { length script.now ≤ 64 }
-    requires known { OnRails rails script.now }
-    ensures { Fresh rails first.now script.now result }
-{
-    Journey {
-        rails,
-        first: *first,
-        steps: copied(script),
-        count: script.len(),
-        place: 0,
-        direction: Direction::Forward,
-        records: stood(first),
+impl Journey {
+    // A run at step 0, going forward.
+    pub(crate) fn begun(proposal: &Proposal) -> Journey
+        requires { Formed proposal.now.platform.now.rails (value_of proposal.now.first.now.values) proposal.now.script.now }
+        ensures { Fresh proposal.now.platform.now.rails proposal.now.first.now proposal.now.script.now result }
+    {
+        let first = *proposal.first;
+        Journey {
+            rails: proposal.platform.rails(),
+            first,
+            steps: Steps::copied(proposal.script),
+            place: 0,
+            direction: Direction::Forward,
+            records: first.values.map(|value| Rail::Still { value }),
+        }
     }
 }

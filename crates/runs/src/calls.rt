@@ -2,27 +2,32 @@
 ghost use Rattle.std.specs.Prelude.{List};
 ghost use Rattle.histories.specs.declared.run.Call.TheVariants.{Advance, Turn};
 ghost use Rattle.runs.specs.Faults.{answered, granted};
-ghost use Rattle.runs.specs.Working.{Ran, Closes};
+ghost use Rattle.runs.specs.Working.{Finds, Ran, Closes};
 
-use crate::fault::RunFault;
+use crate::journey::Journey;
 use crate::run::Run;
 use boards::Board;
-use histories::Answer;
+use histories::{Answer, RunFault};
 
 impl Run {
+    // What an open run holds, if the board suits it.
+    fn journey_on<B: Board>(&self, board: &B) -> Result<Journey, RunFault>
+        ensures { Finds B.Board self.now board.now result }
+    {
+        let journey = self.journey.ok_or(RunFault::NotOpen)?;
+        if !journey.suited(board) {
+            return Err(RunFault::Unsuited);
+        }
+        Ok(journey)
+    }
+
     // One step in the run's direction: the place has moved by one, the rail is still on its way, or the run is at its end.
     pub fn advance<B: Board>(&mut self, board: &mut B) -> Result<Answer, RunFault>
         ensures { (moments : List B) × Ran B.Board self.old board.old Advance (answered result) moments self.new board.new }
     {
-        let Run::Open(held) = *self else {
-            return Err(RunFault::NotOpen);
-        };
-        let mut journey = held;
-        if !journey.suited(board) {
-            return Err(RunFault::Unsuited);
-        }
+        let mut journey = self.journey_on(board)?;
         let answer = journey.work(board);
-        *self = Run::Open(journey);
+        self.journey = Some(journey);
         Ok(answer)
     }
 
@@ -30,15 +35,9 @@ impl Run {
     pub fn turn<B: Board>(&mut self, board: &mut B) -> Result<(), RunFault>
         ensures { (moments : List B) × Ran B.Board self.old board.old Turn (granted result) moments self.new board.new }
     {
-        let Run::Open(held) = *self else {
-            return Err(RunFault::NotOpen);
-        };
-        let mut journey = held;
-        if !journey.suited(board) {
-            return Err(RunFault::Unsuited);
-        }
+        let mut journey = self.journey_on(board)?;
         journey.turn_round(board);
-        *self = Run::Open(journey);
+        self.journey = Some(journey);
         Ok(())
     }
 
@@ -46,13 +45,11 @@ impl Run {
     pub fn close(&mut self) -> Result<(), RunFault>
         ensures { Closes self.old result self.new }
     {
-        let Run::Open(journey) = *self else {
-            return Err(RunFault::NotOpen);
-        };
-        if journey.place != 0 && journey.place != journey.count {
+        let journey = self.journey.ok_or(RunFault::NotOpen)?;
+        if journey.place != 0 && journey.place != journey.script().len() {
             return Err(RunFault::Between);
         }
-        *self = Run::Empty;
+        self.journey = None;
         Ok(())
     }
 }

@@ -9,10 +9,12 @@ pub mod journey;
 pub mod open;
 mod place;
 pub mod run;
+mod steps;
 mod suit;
 mod turn;
 mod work;
 
-pub use fault::{OpenFault, RunFault};
+pub use fault::OpenFault;
+pub use histories::RunFault;
 pub use journey::Journey;
 pub use run::Run;

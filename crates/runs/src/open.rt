@@ -1,59 +1,46 @@
 // Opening a run on a board.
-ghost use Rattle.std.specs.Prelude.{◌≡◌, ◌≤◌, Decides};
+ghost use Rattle.std.specs.Prelude.{◌≡◌, Decides};
 ghost use Rattle.platform.specs.Making.{model_of};
 ghost use Rattle.openings.specs.Openings.{Standing};
-ghost use Rattle.runs.specs.Working.{meaning, plan};
+ghost use Rattle.runs.specs.Working.{meaning, plan_of};
 ghost use Rattle.runs.specs.Opening.{Opens};
 
-use crate::begin::begun;
 use crate::fault::OpenFault;
+use crate::journey::Journey;
 use crate::run::Run;
-use crate::suit::suits;
 use boards::Board;
-use histories::Step;
-use platform::{Mix, Platform};
-use scripts::check;
+use scripts::Proposal;
 
-// Is every rail of the board at its first value and not pending?
-fn standing<B: Board>(rails: u8, first: &Mix, script: &[Step], board: &B) -> bool
-    requires few { rails ≤ 24 }
-    requires counted { B.Board.rails board.now ≡ rails }
-    ensures { Decides result (Standing (plan B.Board rails first.now.values script.now board.now) (meaning B.Board board.now)) }
-{
-    for rail in 0..rails {
-        let Ok((value, pending)) = board.look(rail) else {
-            unreachable()
-        };
-        if pending || value != first.values[rail as usize] {
-            return false;
+impl Journey {
+    // Is every rail of the board at its first value and not pending?
+    fn stands_on<B: Board>(&self, board: &B) -> bool
+        requires { B.Board.rails board.now ≡ self.now.rails }
+        ensures { Decides result (Standing (plan_of B.Board self.now board.now) (meaning B.Board board.now)) }
+    {
+        let firsts = &self.first.values[..self.rails as usize];
+        for (rail, first) in firsts.iter().enumerate() {
+            if board.look(rail as u8) != Ok((*first, false)) {
+                return false;
+            }
         }
+        true
     }
-    true
 }
 
 impl Run {
     // Fills an empty run with a script from a first mix, for a board that stands at that mix.
-    pub fn open<B: Board>(
-        &mut self,
-        platform: &Platform,
-        first: &Mix,
-        script: &[Step],
-        board: &B,
-    ) -> Result<(), OpenFault>
-        ensures { Opens B.Board (model_of platform.now) self.old first.now script.now board.now result self.new }
+    pub fn open<B: Board>(&mut self, proposal: &Proposal, board: &B) -> Result<(), OpenFault>
+        ensures { Opens B.Board (model_of proposal.now.platform.now) self.old proposal.now.first.now proposal.now.script.now board.now result self.new }
     {
-        if let Run::Open(_) = *self {
+        if self.is_open() {
             return Err(OpenFault::NotEmpty);
         }
-        check(platform, first, script)?;
-        let rails = platform.rails();
-        if !suits(rails, first, script, board) {
+        proposal.check()?;
+        let journey = Journey::begun(proposal);
+        if !journey.suited(board) || !journey.stands_on(board) {
             return Err(OpenFault::Board);
         }
-        if !standing(rails, first, script, board) {
-            return Err(OpenFault::Board);
-        }
-        *self = Run::Open(begun(rails, first, script));
+        self.journey = Some(journey);
         Ok(())
     }
 }

@@ -1,8 +1,7 @@
 // The other direction, with every moving rail sent to its end there.
-ghost use Rattle.std.specs.Prelude.{◌≡◌, ◌<◌, List};
+ghost use Rattle.std.specs.Prelude.{◌≡◌, List};
 ghost use Rattle.openings.specs.Plans.{rails_at};
 ghost use Rattle.openings.specs.Runs.{Restarted, other, towards};
-ghost use Rattle.runs.specs.Journeys.{record_at};
 ghost use Rattle.runs.specs.Working.{boards, plan_of, Suited, Turned};
 
 use crate::journey::Journey;
@@ -30,21 +29,15 @@ fn end_towards(direction: Direction, origin: u16, target: u16) -> u16
 }
 
 impl Journey {
-    fn record(&self, rail: u8) -> Rail
-        requires { rail < self.now.rails }
-        ensures { result ≡ record_at self.now.records rail }
-    {
-        self.records[rail as usize]
-    }
-
     // Starts each moving rail towards its end in a direction, in rising order.
     fn restart<B: Board>(&self, board: &mut B, direction: Direction)
         requires { Suited B.Board self.now board.old }
         ensures { (moments : List B) × Restarted (boards B.Board) (rails_at (plan_of B.Board self.now board.old) self.now.place) direction self.now.rails board.old moments board.new }
     {
-        for rail in 0..self.rails {
-            if let Rail::Moving { origin, target } = self.record(rail) {
-                send(board, rail, end_towards(direction, origin, target));
+        let records = &self.records[..self.rails as usize];
+        for (rail, record) in records.iter().enumerate() {
+            if let Rail::Moving { origin, target } = *record {
+                send(board, rail as u8, end_towards(direction, origin, target));
             }
         }
     }

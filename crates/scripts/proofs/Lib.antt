@@ -1,3 +1,3 @@
 pub mod Steps
-pub mod Orders
+pub mod Searches
 pub mod Mixes

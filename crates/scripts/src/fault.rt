@@ -6,7 +6,7 @@ use openings::End;
 
 // A step out of form, or a rail left moving at the script's end; a mix in which a unit does not rest;
 // a step whose spans are not safe for a unit, with its first bad values pin by pin.
-#[derive(Clone, Copy)]
+#[derive(Clone, Copy, Debug, PartialEq, Eq)]
 pub enum ScriptFault {
     OutOfForm {
         step: usize,

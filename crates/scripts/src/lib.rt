@@ -4,10 +4,11 @@
 pub mod checking;
 pub mod fault;
 mod form;
+pub mod proposal;
 pub mod rails;
 mod rest;
 mod safety;
 
-pub use checking::check;
 pub use fault::ScriptFault;
-pub use rails::{end_of, origin_of, rail_at, stepped_rail};
+pub use proposal::Proposal;
+pub use rails::rail_at;

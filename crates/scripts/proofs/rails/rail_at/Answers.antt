@@ -1,17 +1,16 @@
-use Rattle.std.proofs.Common.{◌≡◌, min, length, refl, ap, ◌∙◌, arith}
+use Rattle.std.proofs.Common.{◌≡◌, fold, take, ap, ◌∙◌, rules}
+use Rattle.std.proofs.lemmas.Iterator.{YieldsList-from_slice, YieldsList-from_take}
+use Rattle.std.proofs.lemmas.Iterator.Consumers.{fold_from_yields_List}
 use Rattle.platform.specs.Units.{value_of}
-use Rattle.histories.specs.Rails.{after}
-use Rattle.scripts.proofs.Steps.{after_more, after_min}
+use Rattle.histories.specs.declared.rail.Rail.TheVariants.{Still}
+use Rattle.scripts.proofs.Steps.{by, fold_after}
 use Rattle.scripts.proofs.rails.rail_at.Goals as goal
-
-pub loop-k-preserved : goal.loop-k-preserved
-loop-k-preserved c =
-    after_more (value_of c.args.first.now.values) c.args.script.now c.loop-k.k c.args.rail _ _ c.loop-k.state c.stepped_rail-state.result
-    (omega (arith, c.loop-k-test.true, c.min-k-end.ensures)) refl c.loop-k.invariant c.stepped_rail-state.ensures
 
 pub returns : goal.returns
 returns c =
     let first = value_of c.args.first.now.values in
     let script = c.args.script.now in
-    let e : c.loop-k.k ≡ min c.args.place (length script) = omega (arith, c.loop-k-test.false, c.min-k-end.ensures) in
-    c.loop-k.invariant ∙ ap (λ k. after first script k c.args.rail) e ∙ after_min first script c.args.place c.args.rail
+    let start : c.unwrap_or-value.result ≡ first c.args.rail = search rules in
+    fold_from_yields_List _ (by c.args.rail) (Still c.unwrap_or-value.result) c.fold.result c.fold.ensures.ran (YieldsList-from_take c.args.place (YieldsList-from_slice script cc) cc) (λ a x b q k. search rules)
+    ∙ ap (λ v. fold (by c.args.rail) (Still v) (take c.args.place script)) start
+    ∙ fold_after first script c.args.place c.args.rail

@@ -1,27 +1,16 @@
-use Rattle.std.proofs.Common.{◌<◌, ◌≤◌, length, arith}
-use Rattle.std.proofs.lemmas.List.{length-take-le}
-use Rattle.histories.specs.declared.step.Step.TheVariants.{Start}
-use Rattle.platform.specs.Units.{value_of}
-use Rattle.runs.specs.Journeys.{rail_of}
+use Rattle.std.proofs.Common.{arith}
 use Rattle.runs.specs.Working.{script_of}
-use Rattle.runs.proofs.Places.{ahead, step_here, rail_here, records_on}
+use Rattle.runs.proofs.Places.{ahead, rail_here}
 use Rattle.runs.proofs.journey.Journey.go_on.Goals as goal
 
 pub bounds-self-rail : goal.bounds-self-rail
 bounds-self-rail c =
     let j = c.args.self.now in
     let w = ahead (script_of j) j.place c.args.step c.requires in
-    omega (arith, c.rail_of-rail.ensures, rail_here j.rails j.place (script_of j) j.known w.1, j.few)
+    omega (arith, c.rail-rail.ensures, rail_here j.rails j.place (script_of j) j.known w.1, j.few)
 
-pub step_to-requires : goal.step_to-requires
-step_to-requires c =
+pub step_to-requires-clause-rail : goal.step_to-requires-clause-rail
+step_to-requires-clause-rail c =
     let j = c.args.self.now in
     let w = ahead (script_of j) j.place c.args.step c.requires in
-    let lt = rail_here j.rails j.place (script_of j) j.known w.1 in
-    let le : j.count ≤ length j.steps = omega (arith, j.held, j.sized.1) in
-    let few : rail_of c.args.step < length j.records = omega (arith, lt, j.few, j.sized.0) in
-    record {
-      rail = omega (arith, c.rail_of-rail.ensures, lt);
-      place = omega (arith, (step_here j.place (script_of j) (Start 0 0) w.1).0, length-take-le j.count j.steps le);
-      recorded = rw c.rail_of-rail.ensures (records_on j.rails (value_of j.first.values) (script_of j) j.place j.records c.args.step w.0 w.1 few c.stepped_rail-state.result lt j.recorded (rw c.rail_of-rail.ensures at c.stepped_rail-state.ensures));
-    }
+    omega (arith, c.rail-rail.ensures, rail_here j.rails j.place (script_of j) j.known w.1)

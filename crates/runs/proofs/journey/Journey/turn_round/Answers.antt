@@ -7,5 +7,5 @@ returns g c = record {
   restarted = rw c.reversed-direction.ensures at c.restart.ensures.1;
   place = refl;
   direction = c.reversed-direction.ensures;
-  same = record { rails = refl; first = refl; count = refl; steps = refl };
+  same = record { rails = refl; first = refl; steps = refl };
 }
