@@ -42,7 +42,7 @@ module _ {B : Type 0} (make : Ghosts B) (q : Plan) (ok : Suits q q.rails) (b₀ 
     pub history : History (boards make) q (at 0 Forward b₀) calls outs moments left (state_of run b)
 
   abbrev mk : ℕ → ℕ → (ℕ → ℕ) → List Step → Plan
-  mk n p first script = record { rails = n; ceiling = make.ceiling; patience = p; first = first; script = script }
+  mk n p first script = record { rails = n; ceiling = make.CEILING; patience = p; first = first; script = script }
 
   -- the plan of the same run on a board of the same patience
   same_plan : (j j' : Journey) (b b' : B) → Same j j' → make.patience b' ≡ make.patience b → plan_of make j' b' ≡ plan_of make j b

@@ -25,7 +25,7 @@ module _ {B : Type 0} (make : Ghosts B) (j : Journey) (b : B) (fits : Suited mak
   step_rail s e = omega (arith, rail_known j.direction s e, fits.counted)
 
   -- and where it comes from is not above the ceiling
-  pub origin_low : (r : ℕ) → Some (Wait r) ≡ current (script_of j) j.place j.direction → (k : ℕ) → origin_of (rails_at (plan_of make j b) k r) ≤ make.ceiling
+  pub origin_low : (r : ℕ) → Some (Wait r) ≡ current (script_of j) j.place j.direction → (k : ℕ) → origin_of (rails_at (plan_of make j b) k r) ≤ make.CEILING
   origin_low r e k = (low_rails (plan_of make j b) fits k r (rail_known j.direction (Wait r) e)).0
 
 module _ {B : Type 0} (make : Ghosts B) (j j' : Journey) (b b' : B) (s : Step) (now : Some s ≡ current (script_of j) j.place j.direction) where

@@ -13,7 +13,7 @@ use Rattle.runs.specs.declared.journey.Journey.{Journey}
 use Rattle.runs.specs.Working.{plan_of, Suited}
 
 -- the end that a moving rail is sent to is not above the ceiling
-pub towards_low : {B : Type 0} (make : Ghosts B) (j : Journey) (b : B) → Suited make j b → (d : Direction) (i o t : ℕ) → i < j.rails → rails_at (plan_of make j b) j.place i ≡ Moving o t → towards d o t ≤ make.ceiling
+pub towards_low : {B : Type 0} (make : Ghosts B) (j : Journey) (b : B) → Suited make j b → (d : Direction) (i o t : ℕ) → i < j.rails → rails_at (plan_of make j b) j.place i ≡ Moving o t → towards d o t ≤ make.CEILING
 towards_low make j b fits Forward i o t h e = omega (arith, ap end_of e, (low_rails (plan_of make j b) fits j.place i h).1)
 towards_low make j b fits Backward i o t h e = omega (arith, ap origin_of e, (low_rails (plan_of make j b) fits j.place i h).0)
 

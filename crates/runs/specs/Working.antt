@@ -42,7 +42,7 @@ boards make = record { started = Sent make; polled = Asked make }
 
 -- what a run on a board is opened with
 abbrev pub plan : {B : Type 0} → Ghosts B → ℕ → List ℕ → List Step → B → Plan
-plan make n first script b = record { rails = n; ceiling = make.ceiling; patience = make.patience b; first = value_of first; script = script }
+plan make n first script b = record { rails = n; ceiling = make.CEILING; patience = make.patience b; first = value_of first; script = script }
 
 -- the script that an open run holds
 abbrev pub script_of : Journey → List Step

@@ -38,6 +38,6 @@ impl Journey {
     pub(crate) fn suited<B: Board>(&self, board: &B) -> bool
         ensures { Decides result (Suited B.Board self.now board.now) }
     {
-        board.count() == self.rails && self.values_low(B::top()) && self.targets_low(B::top())
+        board.count() == self.rails && self.values_low(B::CEILING) && self.targets_low(B::CEILING)
     }
 }

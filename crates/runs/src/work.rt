@@ -7,7 +7,7 @@ use boards::Board;
 // Starts a rail towards a goal that the board takes.
 pub(crate) fn send<B: Board>(board: &mut B, rail: u8, goal: u16)
     requires rail { rail < B.Board.rails board.old }
-    requires low { goal ≤ B.Board.ceiling }
+    requires low { goal ≤ B.Board.CEILING }
     ensures { Sent B.Board board.old rail goal board.new }
 {
     let Ok(()) = board.start(rail, goal) else {
