@@ -1,14 +1,13 @@
 -- One line, as the reader takes it apart. Assumes nothing.
 use Rattle.std.proofs.Common.{◌≡◌, ℕ, zero, suc, ◌+◌, ◌<◌, ◌≤◌, Bool, true, false, not, List, [], ◌∷◌, ◌++◌, length, get_or, take, drop, Decides, sym, refl, ap, ◌∙◌, subst, inr, ⊎_elim, append_assoc, append-nil, arith, length-append}
 use Rattle.std.specs.List.{flat_map, AllByRecursion}
-use Rattle.std.proofs.lemmas.List.{take_all, nil_from_length, flat_map_more}
+use Rattle.std.proofs.lemmas.List.{take_all, flat_map_more}
 use Rattle.std.proofs.str.Laws.{order}
 use Rattle.text.specs.Written.{Lacks, commas, Fields}
 use Rattle.text.proofs.Cuts.{around}
 use Rattle.sheet.specs.Sheets.{Told}
-use Rattle.sheet.specs.Sheets.{Sheet, Plain, line, line_fault, written, render, Fits, GoodAfter, Good, Granted, At, Misnamed, Unended, Refused, Shaped, Starts, BadLine, TooFew, LineFault, ReadsRow, Lawful}
+use Rattle.sheet.specs.Sheets.{Sheet, Plain, line, line_fault, written, render, Fits, GoodAfter, Good, At, Misnamed, Unended, Refused, Shaped, Starts, BadLine, LineFault, ReadsRow, Lawful}
 use Rattle.faults.specs.declared.sheet.SheetFault.{SheetFault}
-use Rattle.faults.specs.declared.sheet.SheetFault.TheVariants.{Short}
 use Rattle.sheet.proofs.Laws.{cut_same, line_same, start_same, row_some}
 
 -- a test that came out false, and one that came out true
@@ -68,10 +67,6 @@ module _ {Row : Type 0} {s : Sheet Row} (law : Lawful s) (rows : List Row) {h n 
   named : (k : ℕ) → line_fault k h n ≡ line_fault k s.number (length rows + 1)
   named k i = line_fault k (is_here i) (is_line i)
 
-  pub unended : {rest : List ℕ} (i : ℕ) → 0 < length rest → length rest ≤ i → Lacks 10 (take i rest) → LineFault s rows rest (length rows + 1) (line_fault 0 h n)
-  unended {rest = rest} i some l a =
-      (0, named 0, (some, λ t. let w = t.1 in lacking 10 (commas t.0) w.rest (subst (Lacks 10) (take_all i rest l ∙ w.front ∙ append_assoc (commas t.0) (10 ∷ []) w.rest) a)))
-
   module _ {rest after : List ℕ} {fs : List (List ℕ)} (cut : Line rest fs after) (some : 0 < length rest) where
     pub miscounted : (length fs ≡ s.width → ⊥) → LineFault s rows rest (length rows + 1) (line_fault 0 h n)
     miscounted not = (
@@ -121,9 +116,6 @@ module _ {Row : Type 0} {s : Sheet Row} (law : Lawful s) (rows : List Row) {h n 
       pub crossed : s.Next rows r → (s.Level r → ⊥) → LineFault s rows rest (length rows + 1) (line_fault 3 h n)
       crossed next not = (3, named 3, (some, (shaped wide, ((r, starts), ((r, starts, next), λ t. not (subst s.Level (the_row t.0 t.1) t.3))))))
 
-      pub reads : s.Next rows r → s.Level r → ReadsRow s rows rest r after
-      reads next level = record { front = begins; fits = record { ranged = ranged; next = next; level = level } }
-
 -- the bytes begin with the names and these good rows, and rest is left
 pub record Sofar {Row : Type 0} (s : Sheet Row) (bs : List ℕ) (rows : List Row) (rest : List ℕ) : Type 0 where
   pub short : length bs ≤ 65535
@@ -141,9 +133,6 @@ good_more s b (t ∷ rs) r h f = (h.0, good_more s (b ++ t ∷ []) rs r h.1 (sub
 few : {Row : Type 0} (s : Sheet Row) (rs : List Row) → length rs ≤ length (flat_map (written s) rs)
 few s [] = omega arith
 few s (r ∷ rs) = omega (arith, few s rs, length-append (written s r) (flat_map (written s) rs), length-append (commas (s.fields r)) (10 ∷ []))
-
-pub shrinks : {Row : Type 0} {s : Sheet Row} {rows : List Row} {r : Row} {rest after : List ℕ} → ReadsRow s rows rest r after → length after < length rest
-shrinks {s = s} {r = r} {after = after} w = omega (arith, ap length w.front, length-append (written s r) after, length-append (commas (s.fields r)) (10 ∷ []))
 
 module _ {Row : Type 0} {s : Sheet Row} {bs : List ℕ} where
   pub one_more : {rows more : List Row} {r : Row} {rest after : List ℕ} → Sofar s bs rows rest → ReadsRow s rows rest r after → more ≡ rows ++ r ∷ [] → Sofar s bs more after
@@ -171,12 +160,6 @@ module _ {Row : Type 0} {s : Sheet Row} {bs : List ℕ} where
 
   pub passes_on : {rows : List Row} {rest : List ℕ} (f : SheetFault) → Sofar s bs rows rest → Told (LineFault s rows rest (length rows + 1)) f → Told (Refused s bs) f
   passes_on f h t numbered = stopped f h (t numbered)
-
-  pub short_of : {rows : List Row} {rest : List ℕ} {n h : ℕ} → h ≡ s.number → n ≡ length rows + 1 → Sofar s bs rows rest → length rest ≡ 0 → (s.Whole rows → ⊥) → Refused s bs (Short h n)
-  short_of e is_line sofar none not = (e, subst (At s (TooFew s) bs) (sym is_line) (here sofar (nil_from_length _ none, not)))
-
-  pub granted : {rows : List Row} {rest : List ℕ} → Sofar s bs rows rest → length rest ≡ 0 → s.Whole rows → Granted s bs rows
-  granted {rows = rows} h e all = record { short = h.short; whole = h.whole ∙ ap (λ t. render s rows ++ t) (nil_from_length _ e) ∙ append-nil _; good = h.good; complete = all }
 
   -- the names line
   pub begun : (i : ℕ) → length bs ≤ 65535 → i < length bs → get_or bs i 0 ≡ 10 → take i bs ≡ s.names → Sofar s bs [] (drop (i + 1) bs)

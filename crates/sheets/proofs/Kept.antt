@@ -1,11 +1,7 @@
 -- A loop that maps what passes a test onto the end of a list. Assumes nothing.
 use Rattle.std.proofs.Common.{◌≡◌, ℕ, ◌+◌, ◌<◌, Bool, true, false, cond, List, [], ◌∷◌, ◌++◌, map, length, get_or, take, filter, sym, ap, ◌∙◌, append_assoc, append-nil}
 use Rattle.std.proofs.lemmas.List.Elements.{filter_more}
-use Rattle.std.proofs.lemmas.List.{map_push, take_more, flat_map_more}
-use Rattle.sheets.specs.declared.rows.PinRow.{PinRow}
-use Rattle.sheets.specs.declared.rows.ModeRow.{ModeRow}
-use Rattle.sheets.specs.declared.rows.Place.{Place}
-use Rattle.sheets.specs.Turns.{mode_places, places}
+use Rattle.std.proofs.lemmas.List.{map_push}
 
 module _ {X Y : Type 0} (f : X → Y) (p : X → Bool) (base : List Y) (xs : List X) (i : ℕ) (d : X) (lt : i < length xs) where
   more : filter p (take (i + 1) xs) ≡ filter p (take i xs) ++ cond (p (get_or xs i d)) (get_or xs i d ∷ []) []
@@ -23,11 +19,3 @@ module _ {X Y : Type 0} (f : X → Y) (p : X → Bool) (base : List Y) (xs : Lis
   -- it does not pass
   pub keeps_no : {out : List Y} → p (get_or xs i d) ≡ false → out ≡ base ++ map f (filter p (take i xs)) → out ≡ base ++ map f (filter p (take (i + 1) xs))
   keeps_no t e = e ∙ sym (ap (λ l. base ++ map f l) (more ∙ ap (λ b. filter p (take i xs) ++ cond b (get_or xs i d ∷ []) []) t ∙ append-nil _))
-
--- the places of one mode more
-pub places_more : (pins : List PinRow) (modes : List ModeRow) (i : ℕ) (d : ModeRow) (out : List Place) {more : List Place} → i < length modes → out ≡ places pins (take i modes) → more ≡ out ++ mode_places pins (get_or modes i d) → more ≡ places pins (take (i + 1) modes)
-places_more pins modes i d out lt is e =
-    e
-    ∙ ap (λ l. l ++ mode_places pins (get_or modes i d)) is
-    ∙ flat_map_more (mode_places pins) [] (take i modes) (get_or modes i d)
-    ∙ ap (places pins) (sym (take_more modes i d lt))

@@ -1,4 +1,3 @@
 pub mod Kept
 pub mod Counts
 pub mod Readings
-pub mod Letters

@@ -60,6 +60,7 @@ impl Layout for BoundSheet {
     }
 
     fn level(&self, row: &BoundRow) -> bool {
+        // One comparison: a function shared with sheet 3 would be no shorter.
         row.low <= row.high
     }
 

@@ -1,9 +1,8 @@
-use Rattle.std.proofs.Common.{◌≡◌, ◌+◌, ◌<◌, map, length, take, drop, vec_items, sym, ap, ◌∙◌, subst, arith}
+use Rattle.std.proofs.Common.{◌≡◌, ◌+◌, ◌<◌, map, length, take, drop, vec_items, sym, ap, ◌∙◌, arith}
 use native.Mathlib.Nat.{sub-zero}
-use Rattle.std.proofs.lemmas.List.{length-map, take_rest}
-use Rattle.std.proofs.lemmas.Result.{err_from_is_err_and}
-use Rattle.sheet.specs.Sheets.{Lawful, ReadsRow}
-use Rattle.sheet.proofs.Lines.{refuted, held, Line, line_cut, unended, miscounted, unread, misplaced, crossed, reads}
+use Rattle.std.proofs.lemmas.List.{length-map}
+use Rattle.sheet.specs.Sheets.{Lawful}
+use Rattle.sheet.proofs.Lines.{refuted, held, Line, line_cut, miscounted, unread, misplaced, crossed}
 use Rattle.sheet.proofs.read.read_line.Given as given
 use Rattle.sheet.proofs.read.read_line.Goals as goal
 use Rattle.sheet.proofs.read.read_line.Goals.{After-width}
@@ -20,12 +19,6 @@ module _ (g : given.Over) where
 
   counted : (c : After-width g) → c.len.result ≡ length (map (λ x. x.now) (vec_items c.in_ok-fields.fields))
   counted c = c.len.ensures ∙ c.in_ok-fields.fields.ok.0 ∙ sym (length-map (vec_items c.in_ok-fields.fields) (λ x. x.now))
-
-pub returns-then-end-rest : goal.returns-then-end-rest
-returns-then-end-rest g c _ = unended (g.met.L.Layout.lawful c.args.layout.now) c.args.rows.now c.number-sheet.ensures c.line_after-line.ensures c.find-end.result c.requires.some (omega arith) c.find-end.ensures.before
-
-pub returns-in_err-fields : goal.returns-in_err-fields
-returns-in_err-fields g c = let p = err_from_is_err_and c.from_residual.result c.from_residual.ensures.1 in rw (p.1, p.2) (λ none. absurd (omega arith))
 
 pub returns-then-len-width : goal.returns-then-len-width
 returns-then-len-width g c _ =
@@ -48,10 +41,3 @@ returns-then-not-level g c _ =
     let b = (goal.at.returns-then-not-level g c).After-width in
     let x = c.in-Some.ensures in
     crossed (law g b) c.args.rows.now c.number-sheet.ensures c.line_after-line.ensures (cut g b) c.requires.some (sym (counted g b) ∙ c.if-len-width.false ∙ c.width.ensures) (x.0 ∙ ap (map (λ x. x.now)) c.as_slice.ensures.value) x.1 (held c.if-not-next.false c.next.ensures) (refuted c.if-not-level.true c.level.ensures)
-
-pub returns : goal.returns
-returns g c =
-    let b = (goal.at.returns g c).After-width in
-    let x = c.in-Some.ensures in
-    subst (ReadsRow (g.L.Layout.sheet c.args.layout.now) c.args.rows.now c.args.rest.now c.in-Some.row) (sym (take_rest c.args.rest.now (c.find-end.result + 1)))
-    (reads (law g b) c.args.rows.now c.number-sheet.ensures c.line_after-line.ensures (cut g b) c.requires.some (sym (counted g b) ∙ c.if-len-width.false ∙ c.width.ensures) (x.0 ∙ ap (map (λ x. x.now)) c.as_slice.ensures.value) x.1 (held c.if-not-next.false c.next.ensures) (held c.if-not-level.false c.level.ensures))

@@ -1,4 +1,4 @@
-use Rattle.std.proofs.Common.{Bool, ◌≡◌, ◌+◌, ◌-◌, ◌<◌, length, take, drop, vec_items, Decides, sym, refl, ap, ◌∙◌, subst, inl, arith, true-eqb}
+use Rattle.std.proofs.Common.{Bool, ◌≡◌, ◌+◌, ◌-◌, ◌<◌, length, take, drop, vec_items, Decides, sym, refl, ap, subst, inl, arith}
 use native.Mathlib.Nat.{sub-zero}
 use Rattle.std.specs.Str.{bytes_eq}
 use Rattle.std.proofs.lemmas.Slice.Eq.{bytes_eq-Decides}
@@ -6,7 +6,7 @@ use Rattle.std.proofs.lemmas.Result.{err_from_is_err_and}
 use Rattle.std.proofs.lemmas.List.{take_rest}
 use Rattle.sheet.specs.Sheets.{Told}
 use Rattle.sheet.specs.Sheets.{LineFault, ReadsRow}
-use Rattle.sheet.proofs.Lines.{refuted, held, differs, agrees, Sofar, one_more, counts, shrinks, passes_on, short_of, granted, begun, misnamed, unended_names}
+use Rattle.sheet.proofs.Lines.{differs, agrees, Sofar, one_more, counts, passes_on, begun, misnamed, unended_names}
 use Rattle.sheet.proofs.read.read_rows.Given as given
 use Rattle.sheet.proofs.read.read_rows.Goals as goal
 use Rattle.sheet.proofs.read.read_rows.Goals.{After-ne}
@@ -43,30 +43,14 @@ pub returns-in_err-row : goal.returns-in_err-row
 returns-in_err-row g c = let p = err_from_is_err_and c.from_residual.result c.from_residual.ensures.1 in rw (p.1, p.2)
     (passes_on _ c.loop-rest.invariant (subst (λ l. Told (LineFault (g.L.Layout.sheet c.args.layout.now) l c.loop-rest.rest.now (length l + 1)) c.in_err-row.field-0.0) c.as_slice.ensures.value c.in_err-row.ensures))
 
-pub returns-in_err-push : goal.returns-in_err-push
-returns-in_err-push g c = let p = err_from_is_err_and c.from_residual-in_err-push.result c.from_residual-in_err-push.ensures.1 in rw (p.1, p.2) (λ none. absurd (omega arith))
-
 pub read_line-requires-clause-few : goal.read_line-requires-clause-few
 read_line-requires-clause-few g c = subst (λ l. length l < 65536) (sym c.as_slice.ensures.value) (counts c.loop-rest.invariant)
 
 pub line_after-line-requires : goal.line_after-line-requires
 line_after-line-requires g c = subst (λ l. length l < 65536) (sym c.as_slice-then-not-whole.ensures.value) (counts c.loop-rest.invariant)
 
-pub loop-rest-smaller : goal.loop-rest-smaller
-loop-rest-smaller g c = shrinks c.in_ok-row.ensures
-
 pub loop-rest-preserved : goal.loop-rest-preserved
 loop-rest-preserved g c =
     one_more c.loop-rest.invariant
     (subst (λ l. ReadsRow (g.L.Layout.sheet c.args.layout.now) l c.loop-rest.rest.now c.in_ok-row.row c.in_ok-row.after.now) c.as_slice.ensures.value c.in_ok-row.ensures)
     c.in_ok-push.ensures.items
-
-pub returns-then-not-whole : goal.returns-then-not-whole
-returns-then-not-whole g c _ =
-    short_of c.number-sheet.ensures (c.line_after-line.ensures ∙ ap (λ l. length l + 1) c.as_slice-then-not-whole.ensures.value) c.loop-rest.invariant (true-eqb _ 0 c.loop-rest-test.ensures)
-    (refuted c.if-not-whole.true (subst (λ l. Decides c.whole.result ((g.L.Layout.sheet c.args.layout.now).Whole l)) c.as_slice-2.ensures.value c.whole.ensures))
-
-pub returns : goal.returns
-returns g c =
-    granted c.loop-rest.invariant (true-eqb _ 0 c.loop-rest-test.ensures)
-    (held c.if-not-whole.false (subst (λ l. Decides c.whole.result ((g.L.Layout.sheet c.args.layout.now).Whole l)) c.as_slice-2.ensures.value c.whole.ensures))
