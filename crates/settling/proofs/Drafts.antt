@@ -1,12 +1,42 @@
 -- Where the search stands with one unit more. Assumes nothing.
-use Rattle.std.proofs.Common.{◌≡◌, ℕ, ◌+◌, ◌<◌, List, length, sym, ap, ◌∙◌, subst, add-one, arith, length-set, get_or-set_other, get_or-set_same, below_more}
+use Rattle.std.proofs.Common.{◌≡◌, ℕ, ◌+◌, ◌<◌, List, length, get_or, vec_items, sym, ap, ◌∙◌, subst, add-one, arith, length-set, get_or-set_other, get_or-set_same, below_more}
+use Rattle.std.proofs.lemmas.List.{get_or_default}
+use Rattle.platform.specs.declared.parts.Mode.{Mode}
+use Rattle.sheets.specs.declared.rows.Kind.{Kind}
 use Rattle.sheets.specs.declared.rows.Demand.{Demand}
-use Rattle.platform.specs.Units.{Device, unit_at, mode_at, Rests}
+use Rattle.platform.specs.declared.platform.Platform.{Platform}
+use Rattle.platform.specs.declared.unit.Unit.{Unit}
+use Rattle.platform.specs.Devices.{device, devices}
+use Rattle.platform.specs.Rules.{Sound}
+use Rattle.platform.proofs.Checking.{unit_is, as_many}
+use Rattle.platform.specs.Units.{Device, unit_at, no_mode, mode_at, Rests}
 use Rattle.settling.specs.declared.draft.Draft.{Draft}
-use Rattle.settling.specs.Choices.{OfPlatform, mode_of, Allows, InWindowTo, Same}
+use Rattle.settling.specs.Choices.{units_of, OfPlatform, mode_of, Allows, InWindowTo, Same}
 use Rattle.settling.specs.Tolls.{Toll, Laws, Room, cost_to}
 use Rattle.settling.specs.Searching.{Extends, Stands}
 use Rattle.settling.proofs.Costs.{cost_same, cost_room}
+
+-- a platform keeps every rule
+pub sound : (platform : Platform) → Sound platform.rails (units_of platform)
+sound p = record { rails_counted = p.rails_counted; units_counted = p.units_counted; pins_counted = p.pins_counted; modes_counted = p.modes_counted; wired = p.wired; apart = p.apart; mild = p.mild; cool = p.cool; level = p.level; driven = p.driven }
+
+-- u is the platform's unit at n
+pub record Next (platform : Platform) (n : ℕ) (u : Unit) : Type 0 where
+  pub sound : OfPlatform (units_of platform)
+  pub within : n < length (units_of platform)
+  pub is : unit_at (units_of platform) n ≡ device u
+
+pub next_unit : (platform : Platform) (us : List Unit) (n : ℕ) (u : Unit) → us ≡ vec_items platform.units → n < length us → u ≡ get_or us n u → Next platform n u
+next_unit platform us n u all lt is =
+    let P : List Unit → Type 0 = λ us. (n < length (devices us)) × (unit_at (devices us) n ≡ device u) in
+    let there = subst P all (omega (arith, as_many us), unit_is us n u lt is) in
+    record { sound = (_, sound platform); within = there.0; is = there.1 }
+
+-- the kind of the mode that the unit has at m
+pub kind_read : (u : Unit) (ms : List Mode) (m : ℕ) (d : Mode) (k : Kind) → ms ≡ vec_items u.modes → m < length ms → (get_or ms m d).kind ≡ k → (mode_at (device u) m).kind ≡ k
+kind_read u ms m d k all lt is =
+    let read = get_or_default ms m d no_mode lt in
+    cc
 
 -- the next unit has its place among the modes, and there is room for its cost
 module _ {C : Type 0} {t : Toll C} {units : List Device} {demands : List Demand} {n : ℕ} {d : Draft C} (sound : OfPlatform units) (stands : Stands t units demands n d) (lt : n < length units) where

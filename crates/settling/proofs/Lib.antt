@@ -1,5 +1,4 @@
 pub mod Costs
-pub mod Devices
 pub mod Drafts
 pub mod Endings
 pub mod Holds

@@ -25,6 +25,10 @@ pub record Laws {C : Type 0} (t : Toll C) : Type 0 where
   pub made_of : (m : Mode) → m.draw ≤ 1000000 → t.Made 1 (t.of m)
   pub made_plus : (j k : ℕ) (a b : C) → t.Made j a → t.Made k b → t.Made (j + k) (t.plus a b)
 
+-- whatever a mode is turned into is what it costs
+abbrev pub Reckons : {C : Type 0} → Toll C → (Mode → C → Type 0) → Type 0
+Reckons {C} t gives = (mode : Mode) (cost : C) → gives mode cost → cost ≡ t.of mode
+
 -- together they are no more than 24 units come to, so that the sum can be held
 abbrev pub Room : {C : Type 0} → Toll C → C → C → Type 0
 Room t a b = (j : ℕ) × ((k : ℕ) × ((j + k ≤ 24) × (t.Made j a × t.Made k b)))

@@ -25,23 +25,16 @@ pub struct Settled<C> {
 fn first_unknown(rails: u8, demands: &[Demand]) -> Option<usize>
     ensures { MatchOption result (Known rails demands.now) (λ i. UnknownAt rails demands.now i) }
 {
-    for (i, demand) in demands.iter().enumerate() {
-        if demand.rail >= rails {
-            return Some(i);
-        }
-    }
-    None
+    demands.iter().position(|demand| demand.rail >= rails)
 }
 
 // The low of each window.
 fn lows(windows: [Bounds; 24]) -> Mix
     ensures { (r : ℕ) → r < 24 → value_of result.values r ≡ (bounds_at windows r).low }
 {
-    let mut values = [0; 24];
-    for r in 0..24 {
-        values[r] = windows[r].low;
+    Mix {
+        values: windows.map(|window| window.low),
     }
-    Mix { values }
 }
 
 // The least choice, what it leaves each rail and what it costs.
@@ -51,22 +44,21 @@ pub fn settle<C: Cost>(platform: &Platform, demands: &[Demand]) -> Result<Settle
     if let Some(i) = first_unknown(platform.rails(), demands) {
         return Err(SettleFault::UnknownRail { line: i + 1 });
     }
-    let task = Task {
-        units: platform.units(),
-        demands,
-    };
+    let task = Task { platform, demands };
     let draft = Draft {
         modes: [0; 24],
         windows: demanded(demands),
         cost: C::nothing(),
     };
-    match search(task, 0, draft, None) {
-        None => Err(SettleFault::NoChoice),
-        Some(found) => Ok(Settled {
-            modes: found.modes,
-            windows: found.windows,
-            targets: lows(found.windows),
-            cost: found.cost,
-        }),
-    }
+    let Draft {
+        modes,
+        windows,
+        cost,
+    } = search(task, 0, draft, None).ok_or(SettleFault::NoChoice)?;
+    Ok(Settled {
+        modes,
+        windows,
+        targets: lows(windows),
+        cost,
+    })
 }

@@ -1,12 +1,12 @@
 // Costs: the sum of draws, and the greatest heat class with the sum of draws.
 ghost use Rattle.std.specs.Prelude.{◌≡◌, Decides};
-ghost use Rattle.settling.specs.Tolls.{Toll, Laws, Room};
+ghost use Rattle.settling.specs.Tolls.{Toll, Laws, Reckons, Room};
 ghost use Rattle.settling.specs.Sums.{draw_toll, draw_laws, heat_toll, heat_laws};
 
 use platform::Mode;
 
 // What a choice may cost: a nothing, an adding that never lessens, and a total order.
-pub trait Cost: Copy {
+pub trait Cost: Copy + From<Mode> {
     ghost toll: { Toll Self };
 
     // What each `impl` must prove.
@@ -15,28 +15,37 @@ pub trait Cost: Copy {
     fn nothing() -> Self
         ensures { result ≡ toll.nothing };
 
-    fn of(mode: Mode) -> Self
-        ensures { result ≡ toll.of mode };
-
     fn plus(self, other: Self) -> Self
         requires { Room toll self other }
         ensures { result ≡ toll.plus self other };
 
     fn at_most(self, other: Self) -> bool
         ensures { Decides result (toll.AtMost self other) };
+
+    ghost reckons: { Reckons toll Self.from_gives };
 }
 
 // The sum of draws.
-#[derive(Clone, Copy)]
+#[derive(Clone, Copy, Debug, PartialEq, Eq, PartialOrd, Ord)]
 pub struct Draw {
     pub milliwatts: u32,
 }
 
 // The greatest heat class, and among equals the sum of draws.
-#[derive(Clone, Copy)]
+#[derive(Clone, Copy, Debug, PartialEq, Eq, PartialOrd, Ord)]
 pub struct HeatThenDraw {
     pub heat: u8,
     pub draw: u32,
+}
+
+impl From<Mode> for Draw {
+    ghost from_gives = { λ mode draw. draw ≡ draw_toll.of mode };
+
+    fn from(mode: Mode) -> Draw {
+        Draw {
+            milliwatts: mode.draw,
+        }
+    }
 }
 
 impl Cost for Draw {
@@ -44,14 +53,10 @@ impl Cost for Draw {
 
     ghost laws = { draw_laws };
 
+    ghost reckons = { λ mode cost is. is };
+
     fn nothing() -> Draw {
         Draw { milliwatts: 0 }
-    }
-
-    fn of(mode: Mode) -> Draw {
-        Draw {
-            milliwatts: mode.draw,
-        }
     }
 
     fn plus(self, other: Draw) -> Draw {
@@ -61,7 +66,18 @@ impl Cost for Draw {
     }
 
     fn at_most(self, other: Draw) -> bool {
-        self.milliwatts <= other.milliwatts
+        self <= other
+    }
+}
+
+impl From<Mode> for HeatThenDraw {
+    ghost from_gives = { λ mode cost. cost ≡ heat_toll.of mode };
+
+    fn from(mode: Mode) -> HeatThenDraw {
+        HeatThenDraw {
+            heat: mode.heat,
+            draw: mode.draw,
+        }
     }
 }
 
@@ -70,15 +86,10 @@ impl Cost for HeatThenDraw {
 
     ghost laws = { heat_laws };
 
+    ghost reckons = { λ mode cost is. is };
+
     fn nothing() -> HeatThenDraw {
         HeatThenDraw { heat: 0, draw: 0 }
-    }
-
-    fn of(mode: Mode) -> HeatThenDraw {
-        HeatThenDraw {
-            heat: mode.heat,
-            draw: mode.draw,
-        }
     }
 
     fn plus(self, other: HeatThenDraw) -> HeatThenDraw {
@@ -89,6 +100,6 @@ impl Cost for HeatThenDraw {
     }
 
     fn at_most(self, other: HeatThenDraw) -> bool {
-        self.heat < other.heat || (self.heat == other.heat && self.draw <= other.draw)
+        self <= other
     }
 }

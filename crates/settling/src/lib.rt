@@ -7,7 +7,6 @@ mod draft;
 mod search;
 pub mod theorems;
 pub mod total;
-mod units;
 mod windows;
 
 pub use answer::{Settled, settle};

@@ -1,12 +1,10 @@
 // Windows: what the demands leave each rail, and what a unit in a mode leaves of that.
 ghost use Rattle.std.specs.Prelude.{◌≡◌, ◌<◌, length, Decides};
 ghost use Rattle.platform.specs.Devices.{device};
-ghost use Rattle.platform.specs.Rules.{PinsCounted, Wired};
 ghost use Rattle.settling.specs.Choices.{Known, Demanded};
 ghost use Rattle.settling.specs.Narrowing.{shared, Hold, Open, Still};
 
-use crate::units::{bounds_of, mode_of, rail_of};
-use platform::{Bounds, Unit};
+use platform::{Bounds, Mode, Unit};
 use sheets::Demand;
 
 // What two bounds have in common.
@@ -41,16 +39,14 @@ pub(crate) fn demanded(demands: &[Demand]) -> [Bounds; 24]
 
 // What is left of the windows once the unit is in the mode.
 pub(crate) fn narrowed(windows: [Bounds; 24], unit: &Unit, mode: usize) -> [Bounds; 24]
-    requires pins { PinsCounted (device unit.now) }
-    requires wired { Wired 24 (device unit.now) }
-    requires mode { mode < length (device unit.now).modes }
+    requires { mode < length (device unit.now).modes }
     ensures { Hold (Still (device unit.now) mode windows) result }
 {
-    let chosen = mode_of(unit, mode);
+    let Mode { bounds, .. } = unit.modes[mode];
     let mut left = windows;
-    for pin in 0..unit.pins.len() {
-        let rail = rail_of(unit, pin);
-        left[rail] = common(left[rail], bounds_of(chosen.bounds, pin));
+    for (pin, allowed) in unit.pins.iter().zip(&bounds) {
+        let rail = pin.rail as usize;
+        left[rail] = common(left[rail], *allowed);
     }
     left
 }
@@ -59,10 +55,5 @@ pub(crate) fn narrowed(windows: [Bounds; 24], unit: &Unit, mode: usize) -> [Boun
 pub(crate) fn all_open(windows: [Bounds; 24]) -> bool
     ensures { Decides result (Open windows) }
 {
-    for window in &windows {
-        if window.high < window.low {
-            return false;
-        }
-    }
-    true
+    windows.iter().all(|window| window.is_open())
 }

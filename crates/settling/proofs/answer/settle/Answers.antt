@@ -1,33 +1,24 @@
-use Rattle.std.proofs.Common.{◌≡◌, List, length, replicate, subst, arith, rules}
-use Rattle.platform.specs.declared.unit.Unit.{Unit}
-use Rattle.platform.specs.Devices.{devices}
-use Rattle.settling.specs.Choices.{Known, Hopeless}
+use Rattle.std.proofs.Common.{◌≡◌, Err, replicate, rules}
+use Rattle.faults.specs.declared.settle.SettleFault.TheVariants.{NoChoice}
+use Rattle.settling.specs.Choices.{units_of}
+use Rattle.settling.proofs.Drafts.{sound}
 use Rattle.settling.proofs.Endings.{stands_first, settled_none, settled_some}
 use Rattle.settling.proofs.answer.settle.Goals as goal
 
-pub search-requires : goal.search-requires
-search-requires g c =
-    let long : length c.demanded.result ≡ 24 = search rules in
-    record {
-      sound = (_, c.units.ensures.sound);
-      within = omega arith;
-      stands = stands_first g.C.Cost.toll (devices c.units.result.now) c.args.demands.now c.demanded.result c.nothing.result c.demanded.ensures long c.nothing.ensures;
-      found = tt;
-      place = tt;
-    }
+pub search-requires-clause-stands : goal.search-requires-clause-stands
+search-requires-clause-stands g c = stands_first g.C.Cost.toll (units_of c.args.platform.now) c.args.demands.now c.demanded.result c.nothing.result c.demanded.ensures (search rules) c.nothing.ensures
 
-pub returns-in-None : goal.returns-in-None
-returns-in-None g c =
-    let demands = c.args.demands.now in
-    let known = subst (λ n. Known n demands) c.rails.ensures c.in_default.ensures in
-    let none = settled_none g.C.Cost.toll (devices c.units.result.now) demands _ c.units.ensures.sound (replicate 24 0) c.in-None.ensures in
-    (known, subst (λ (us : List Unit). Hopeless (devices us) demands) c.units.ensures.value none)
+pub returns-in_err-modes : goal.returns-in_err-modes
+returns-in_err-modes g c =
+    let platform = c.args.platform.now in
+    let known = rw c.rails.ensures at c.in_default.ensures in
+    let none = rw c.in_err-modes.ensures.ok_part at c.search.ensures in
+    let err : c.from_residual.result ≡ Err NoChoice = search rules in
+    rw err (known, settled_none g.C.Cost.toll (units_of platform) c.args.demands.now platform.rails (sound platform) (replicate 24 0) none)
 
-pub returns-in-Some-search : goal.returns-in-Some-search
-returns-in-Some-search g c =
-    let demands = c.args.demands.now in
-    let rails = c.args.platform.now.rails in
-    let known = subst (λ n. Known n demands) c.rails.ensures c.in_default.ensures in
-    let long : length c.lows.result.values ≡ 24 = search rules in
-    let settled = settled_some g.C.Cost.toll (devices c.units.result.now) demands rails c.units.ensures.sound (replicate 24 0) known c.in-Some-search.found c.lows.result c.lows.ensures long c.in-Some-search.ensures in
-    rw c.units.ensures.value at settled
+pub returns : goal.returns
+returns g c =
+    let platform = c.args.platform.now in
+    let known = rw c.rails.ensures at c.in_default.ensures in
+    let some = rw c.in_ok-modes.ensures.ok_part at c.search.ensures in
+    settled_some g.C.Cost.toll (units_of platform) c.args.demands.now platform.rails (sound platform) (replicate 24 0) known c.in_ok-modes.field-0 c.lows.result c.lows.ensures (search rules) some
