@@ -1,3 +1,4 @@
 pub mod Steps
 pub mod Mixes
 pub mod Moves
+pub mod Picked

@@ -5,7 +5,7 @@ use Rattle.platform.specs.declared.parts.Bounds.{Bounds}
 use Rattle.platform.specs.Units.{Device, rail_at, bounds_at, pin_bounds, Within}
 use Rattle.platform.specs.Rules.{Wired, Apart}
 use Rattle.spans.specs.Safety.{Allowed, SafeFor, pin_values, Alike, Before, BadValues}
-use Rattle.spans.specs.Searching.{Open, values_of, Inside, Held, AllHeld, FirstUnheld}
+use Rattle.spans.specs.Searching.{Open, values_of, Inside, Held, AllHeld, FirstUnheld, Seeks}
 
 first_or : (n : ℕ) (P : ℕ → ℕ → Type 0) (x : ℕ) (xs : List ℕ) → P 0 x → ((k : ℕ) → k < n → P (suc k) (get_or xs k 0)) → (k : ℕ) → k < suc n → P k (get_or (x ∷ xs) k 0)
 first_or n P x xs here later zero h = here
@@ -81,6 +81,6 @@ module _ (rails : ℕ) (spans : List Bounds) (u : Device) where
       }
 
   -- what the search answers is what spans do
-  pub judged : Open rails spans → Apart u → Wired rails u → (vs : ℕ → ℕ) (answer : Option (List ℕ)) → MatchOption answer (AllHeld u spans 0 vs) (λ bad. FirstUnheld u spans 0 vs (values_of bad)) → MatchOption answer (SafeFor rails spans u) (λ values. BadValues rails spans u values)
+  pub judged : Open rails spans → Apart u → Wired rails u → (vs : ℕ → ℕ) (answer : Option (List ℕ)) → Seeks u spans 0 vs answer → MatchOption answer (SafeFor rails spans u) (λ values. BadValues rails spans u values)
   judged wide apart wired vs None held = safe_all wired vs held
   judged wide apart wired vs (Some bad) f = bad_first wide apart wired vs bad f

@@ -1,30 +1,10 @@
 -- What one more mode, and one more value at a pin, adds to the search. Assumes nothing.
-use Rattle.std.proofs.Common.{◌≡◌, ℕ, ◌+◌, ◌<◌, ◌≤◌, Bool, false, cond, ◌&&◌, eqb, leb, ◌≢◌, List, length, get_or, set, sym, refl, ◌∙◌, subst, ⊎_elim, arith, get_or-set_other, get_or-set_same, below_more}
-use Rattle.std.proofs.lemmas.Bool.{cases_lt, cases_order, cases_eq, cond-true, cond-false, eq-eqb, ne_eqb, and_parts, and_from, leb-true, le-leb}
+use Rattle.std.proofs.Common.{◌≡◌, ℕ, ◌+◌, ◌<◌, ◌≤◌, Bool, cond, eqb, ◌≢◌, List, length, set, sym, refl, ◌∙◌, subst, ⊎_elim, arith, get_or-set_other, get_or-set_same, below_more}
+use Rattle.std.proofs.lemmas.Bool.{cases_lt, cases_order, cases_eq, cond-true, cond-false, eq-eqb, ne_eqb}
 use Rattle.platform.specs.declared.parts.Bounds.{Bounds}
 use Rattle.platform.specs.Units.{Device, pin_bounds, Within}
 use Rattle.spans.specs.Safety.{Alike}
-use Rattle.spans.specs.Searching.{values_of, pin_span, Inside, Held, AllHeld, FirstUnheld, Marked, Alive, Keeps, Under}
-
--- one more mode is marked
-pub keeps_more : (u : Device) (pin v n : ℕ) (alive kept : List Bool) (b : Bounds) → b ≡ pin_bounds u n pin → n < length kept → Keeps n u pin v alive kept → Keeps (n + 1) u pin v alive (set kept n ((get_or alive n false && leb b.low v) && leb v b.high))
-keeps_more u pin v n alive kept b is lt old =
-    let here : Bool = (get_or alive n false && leb b.low v) && leb v b.high in
-    let P : ℕ → Type 0 = λ m. (Marked (set kept n here) m → Marked alive m × Within (pin_bounds u m pin) v) × (Marked alive m → Within (pin_bounds u m pin) v → Marked (set kept n here) m) in
-    below_more P n
-    (λ m h.
-    let ne : m ≢ n = omega arith in
-    let e = get_or-set_other kept n m here false ne in
-    (λ k. (old m h).0 (sym e ∙ k), λ a w. e ∙ (old m h).1 a w))
-    (let e = get_or-set_same kept n here false lt in (
-      λ k.
-          let both = and_parts _ _ (sym e ∙ k) in
-          let front = and_parts _ _ both.0 in
-          (front.0, subst (λ (t : Bounds). Within t v) is (leb-true _ _ front.1, leb-true _ _ both.1)),
-      λ a w.
-          let own = subst (λ (t : Bounds). Within t v) (sym is) w in
-          e ∙ and_from _ _ (and_from _ _ a (le-leb _ _ own.0)) (le-leb _ _ own.1),
-    ))
+use Rattle.spans.specs.Searching.{values_of, pin_span, Inside, Held, AllHeld, FirstUnheld, Alive, Keeps, Under}
 
 -- ws with v at pin n
 abbrev put : (ℕ → ℕ) → ℕ → ℕ → ℕ → ℕ

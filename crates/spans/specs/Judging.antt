@@ -1,10 +1,9 @@
 -- What each answer says of a platform's units. Assumes nothing.
-use Rattle.std.specs.Prelude.{◌≡◌, ℕ, ◌<◌, ◌≤◌, List, length}
+use Rattle.std.specs.Prelude.{◌≡◌, ℕ, ◌<◌, ◌≤◌, List, length, Some, None, Option, Ok, Err, Result}
 use Rattle.platform.specs.declared.parts.Bounds.{Bounds}
 use Rattle.platform.specs.Units.{Device, unit_at, rail_at}
 use Rattle.platform.specs.Describing.{Model}
-use Rattle.spans.specs.declared.judge.Verdict.{Verdict}
-use Rattle.spans.specs.declared.judge.Verdict.TheVariants.{Safe, Bad, NoUnit}
+use Rattle.spans.specs.declared.judge.NoUnit.{NoUnit}
 use Rattle.spans.specs.Safety.{SafeFor, BadValues}
 
 -- the spans are safe for unit k
@@ -15,11 +14,11 @@ SafeAt m spans k = SafeFor m.rails spans (unit_at m.units k)
 abbrev pub BadAt : Model → List Bounds → ℕ → List ℕ → Type 0
 BadAt m spans k values = BadValues m.rails spans (unit_at m.units k) values
 
--- what a verdict says of unit k
-abbrev pub Judges : Model → List Bounds → ℕ → Verdict → Type 0
-Judges m spans k Safe = (k < length m.units) × SafeAt m spans k
-Judges m spans k (Bad values) = (k < length m.units) × BadAt m spans k values
-Judges m spans k NoUnit = length m.units ≤ k
+-- what an answer says of unit k
+abbrev pub Judges : Model → List Bounds → ℕ → Result (Option (List ℕ)) NoUnit → Type 0
+Judges m spans k (Ok None) = (k < length m.units) × SafeAt m spans k
+Judges m spans k (Ok (Some values)) = (k < length m.units) × BadAt m spans k values
+Judges m spans k (Err e) = length m.units ≤ k
 
 -- the spans are safe for every unit
 abbrev pub AllSafe : Model → List Bounds → Type 0

@@ -1,5 +1,5 @@
 -- What the search keeps: values tried pin by pin, and the modes that hold them. Assumes nothing.
-use Rattle.std.specs.Prelude.{◌≡◌, ℕ, ◌<◌, ◌≤◌, Bool, true, false, List, length, slice_index, slice_index_or}
+use Rattle.std.specs.Prelude.{◌≡◌, ℕ, ◌<◌, ◌≤◌, Bool, true, false, List, length, slice_index, slice_index_or, Option, MatchOption}
 use Rattle.platform.specs.declared.parts.Bounds.{Bounds}
 use Rattle.platform.specs.Units.{Device, rail_at, bounds_at, pin_bounds, Within}
 use Rattle.spans.specs.Safety.{Alike, Before}
@@ -38,6 +38,10 @@ pub record FirstUnheld (u : Device) (spans : List Bounds) (n : ℕ) (vs bad : �
   pub unheld : Held u bad → ⊥
   pub first : (ws : ℕ → ℕ) → Inside u spans (length u.pins) ws → Alike n ws vs → Before (length u.pins) ws bad → Held u ws
   pub past : (p : ℕ) → length u.pins ≤ p → bad p ≡ 0
+
+-- what a search among those values answers: none, or the first that no mode holds
+abbrev pub Seeks : Device → List Bounds → ℕ → (ℕ → ℕ) → Option (List ℕ) → Type 0
+Seeks u spans n vs answer = MatchOption answer (AllHeld u spans n vs) (λ bad. FirstUnheld u spans n vs (values_of bad))
 
 -- 0 from pin n on
 abbrev pub Blank : ℕ → (ℕ → ℕ) → Type 0

@@ -1,53 +1,84 @@
 // Whether spans are safe for one unit, and for all units.
-ghost use Rattle.std.specs.Option.{MatchOption};
+ghost use Rattle.std.specs.Prelude.{Decides, MatchOption};
+ghost use Rattle.std.specs.Fn.{FnReturnsAt};
 ghost use Rattle.platform.specs.Making.{model_of};
 ghost use Rattle.spans.specs.Judging.{Judges, AllSafe, LowestBad};
+ghost use Rattle.spans.specs.Picking.{NonePicked, LowestPicked};
+ghost use Rattle.spans.specs.Searching.{Open};
 
-use crate::units::{all_open, bad_values, count};
-use platform::{Bounds, Platform};
+use crate::search::first_unheld;
+use platform::{Bounds, Platform, Unit};
+use std::fmt;
 
-// Safe, or the values of the unit's pins at the first bad mix, or no such unit. Values past the last pin are 0.
-#[derive(Clone, Copy)]
-pub enum Verdict {
-    Safe,
-    Bad { values: [u16; 4] },
-    NoUnit,
+// The platform has no unit of this number.
+#[derive(Clone, Copy, Debug, PartialEq, Eq)]
+pub struct NoUnit;
+
+impl fmt::Display for NoUnit {
+    fn fmt<W: fmt::Write>(&self, f: &mut fmt::Formatter<W>) -> fmt::Result {
+        f.write_str("the platform has no such unit")
+    }
 }
 
 // A unit with the values of its pins at its first bad mix, 0 past its last pin.
-#[derive(Clone, Copy)]
+#[derive(Clone, Copy, Debug, PartialEq, Eq)]
 pub struct BadUnit {
     pub unit: usize,
     pub values: [u16; 4],
 }
 
-// Whether the spans are safe for a unit, or its first bad values: least on pin 0, then on pin 1, and so on.
-pub fn first_bad(platform: &Platform, unit: usize, spans: &[Bounds; 24]) -> Verdict
+// Is no span empty? Those past the last rail are not read.
+fn all_open(platform: &Platform, spans: &[Bounds; 24]) -> bool
+    ensures { Decides result (Open platform.now.rails spans.now) }
+{
+    spans[..platform.rails() as usize]
+        .iter()
+        .all(|span| span.is_open())
+}
+
+// None if the spans are safe for the unit, or else its first bad values: least on pin 0, then on pin 1, and so on, and 0 past its last pin.
+pub fn first_bad(
+    platform: &Platform,
+    unit: usize,
+    spans: &[Bounds; 24],
+) -> Result<Option<[u16; 4]>, NoUnit>
     ensures { Judges (model_of platform.now) spans.now unit result }
 {
-    if unit >= count(platform) {
-        return Verdict::NoUnit;
+    let units = platform.units();
+    if unit >= units.len() {
+        return Err(NoUnit);
     }
     if !all_open(platform, spans) {
-        return Verdict::Safe;
+        return Ok(None);
     }
-    match bad_values(platform, unit, spans) {
-        None => Verdict::Safe,
-        Some(values) => Verdict::Bad { values },
+    Ok(first_unheld(&units[unit], spans))
+}
+
+// The lowest of the picked units for which the spans are not safe, with its first bad values.
+pub(crate) fn lowest_picked<F: Fn(&Unit) -> bool>(
+    platform: &Platform,
+    spans: &[Bounds; 24],
+    picks: F,
+) -> Option<BadUnit>
+    requires { F.IsAlwaysCallable picks }
+    ensures { MatchOption result (NonePicked (FnReturnsAt F.Fn picks) platform.now spans.now) (λ b. LowestPicked (FnReturnsAt F.Fn picks) platform.now spans.now b.unit b.values) }
+{
+    if !all_open(platform, spans) {
+        return None;
     }
+    for (unit, at) in platform.units().iter().enumerate() {
+        if picks(at) {
+            if let Some(values) = first_unheld(at, spans) {
+                return Some(BadUnit { unit, values });
+            }
+        }
+    }
+    None
 }
 
 // The lowest unit for which the spans are not safe, with its first bad values.
 pub fn lowest_bad(platform: &Platform, spans: &[Bounds; 24]) -> Option<BadUnit>
     ensures { MatchOption result (AllSafe (model_of platform.now) spans.now) (λ b. LowestBad (model_of platform.now) spans.now b.unit b.values) }
 {
-    if !all_open(platform, spans) {
-        return None;
-    }
-    for unit in 0..count(platform) {
-        if let Some(values) = bad_values(platform, unit, spans) {
-            return Some(BadUnit { unit, values });
-        }
-    }
-    None
+    lowest_picked(platform, spans, |_| true)
 }

@@ -2,13 +2,11 @@
 #![tactic(auto)]
 
 pub mod judge;
-mod kept;
-mod pins;
 pub mod rails;
 mod search;
 pub mod theorems;
-mod units;
+mod trial;
 
-pub use judge::{BadUnit, Verdict, first_bad, lowest_bad};
+pub use judge::{BadUnit, NoUnit, first_bad, lowest_bad};
 pub use rails::lowest_bad_on;
 pub use theorems::{one_rail, worked_cases};

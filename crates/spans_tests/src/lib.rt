@@ -4,7 +4,7 @@
 #[cfg(test)]
 mod tests {
     use platform::{Bounds, Inquiry, read_inquiry};
-    use spans::{Verdict, first_bad, lowest_bad, lowest_bad_on};
+    use spans::{NoUnit, first_bad, lowest_bad, lowest_bad_on};
     use std::alloc::Global;
     use std::test::Fail;
 
@@ -28,21 +28,14 @@ mod tests {
         spans
     }
 
-    fn is_bad(verdict: Verdict, wanted: [u16; 4]) -> bool {
-        match verdict {
-            Verdict::Bad { values } => values == wanted,
-            Verdict::Safe | Verdict::NoUnit => false,
-        }
-    }
-
     // The regulator needs rail 0 up before rail 1 leaves 0.
     #[test]
     fn rail_1_moved_first(rt: HostRuntime) -> Result<(), Fail> {
         let board = small_board(rt.alloc()).ok_or("refused")?;
         let moving = spans((0, 0), (0, 1650));
-        assert!(rt; is_bad(first_bad(&board.platform, 1, &moving), [0, 1, 0, 0]));
-        assert!(rt; matches!(first_bad(&board.platform, 2, &moving), Verdict::Safe));
-        assert!(rt; matches!(first_bad(&board.platform, 3, &moving), Verdict::NoUnit));
+        assert!(rt; first_bad(&board.platform, 1, &moving) == Ok(Some([0, 1, 0, 0])));
+        assert!(rt; first_bad(&board.platform, 2, &moving) == Ok(None));
+        assert!(rt; first_bad(&board.platform, 3, &moving) == Err(NoUnit));
         let bad = lowest_bad(&board.platform, &moving).ok_or("safe")?;
         assert!(rt; (bad.unit == 1) & (bad.values == [0, 1, 0, 0]));
         Ok(())
