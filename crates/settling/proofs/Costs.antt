@@ -15,12 +15,6 @@ draws_mild u mild m =
     ⊎_elim (mild m) (λ past. subst P (sym (get_or_past u.modes m no_mode past)) (omega arith)) (cases_lt m (length u.modes))
 
 module _ {C : Type 0} {t : Toll C} (laws : Laws t) where
-  pub absent_mode : (u : Device) (m : ℕ) → length u.modes ≤ m → t.of (mode_at u m) ≡ t.nothing
-  absent_mode u m past =
-      let e : mode_at u m ≡ no_mode = get_or_past u.modes m no_mode past in
-      let none = laws.absent in
-      cc
-
   module _ (units : List Device) where
     pub cost_same : (n : ℕ) (a b : List ℕ) → Same n a b → cost_to t units n a ≡ cost_to t units n b
     cost_same zero a b same = refl

@@ -1,5 +1,5 @@
 -- Where the search stands with one unit more. Assumes nothing.
-use Rattle.std.proofs.Common.{◌≡◌, ℕ, ◌+◌, ◌<◌, List, length, get_or, vec_items, sym, ap, ◌∙◌, subst, add-one, arith, length-set, get_or-set_other, get_or-set_same, below_more}
+use Rattle.std.proofs.Common.{◌≡◌, ℕ, ◌+◌, ◌<◌, List, length, get_or, vec_items, sym, ap, ◌∙◌, subst, add-one, arith, rules, length-set, get_or-set_other, get_or-set_same, below_more}
 use Rattle.std.proofs.lemmas.List.{get_or_default}
 use Rattle.platform.specs.declared.parts.Mode.{Mode}
 use Rattle.sheets.specs.declared.rows.Kind.{Kind}
@@ -18,7 +18,7 @@ use Rattle.settling.proofs.Costs.{cost_same, cost_room}
 
 -- a platform keeps every rule
 pub sound : (platform : Platform) → Sound platform.rails (units_of platform)
-sound p = record { rails_counted = p.rails_counted; units_counted = p.units_counted; pins_counted = p.pins_counted; modes_counted = p.modes_counted; wired = p.wired; apart = p.apart; mild = p.mild; cool = p.cool; level = p.level; driven = p.driven }
+sound p = search rules
 
 -- u is the platform's unit at n
 pub record Next (platform : Platform) (n : ℕ) (u : Unit) : Type 0 where

@@ -1,6 +1,5 @@
 -- One bound more on one rail narrows the windows. Assumes nothing.
-use Rattle.std.proofs.Common.{◌≡◌, ℕ, ◌+◌, ◌<◌, ◌≢◌, List, length, set, replicate, sym, refl, subst, ⊎_elim, arith, get_or-set_other, get_or-set_same, below_more}
-use Rattle.std.proofs.lemmas.List.{get_or-replicate}
+use Rattle.std.proofs.Common.{◌≡◌, ℕ, ◌+◌, ◌<◌, ◌≢◌, List, length, set, sym, refl, subst, ⊎_elim, arith, get_or-set_other, get_or-set_same, below_more}
 use Rattle.std.proofs.lemmas.Bool.{cases_eq}
 use Rattle.sheets.specs.declared.rows.Demand.{Demand}
 use Rattle.platform.specs.declared.parts.Bounds.{Bounds}
@@ -42,13 +41,6 @@ module _ (P Q : ℕ → ℕ → Type 0) (windows : List Bounds) (x : ℕ) (b : B
         λ q. subst W (sym (elsewhere r off)) ((hold r h v).1 (less r v q).0),
       ))
       (cases_eq x r)
-
--- before any demand
-pub whole : (demands : List Demand) → Hold (DemandedTo 0 demands) (replicate 24 (record { low = 0; high = 65535 }))
-whole demands r h v =
-    let is : bounds_at (replicate 24 (record { low = 0; high = 65535 })) r ≡ record { low = 0; high = 65535 } = get_or-replicate 24 r _ _ h in
-    let W : Bounds → Type 0 = λ w. Within w v in
-    (λ w. ((subst W is w).1, λ i lt. absurd (omega arith)), λ d. subst W (sym is) (omega arith, d.0))
 
 -- one demand more
 pub demand_more : (demands : List Demand) (i : ℕ) (windows : List Bounds) → length windows ≡ 24 → (demand_at demands i).rail < 24 → Hold (DemandedTo i demands) windows → Hold (DemandedTo (i + 1) demands) (set windows (demand_at demands i).rail (shared (bounds_at windows (demand_at demands i).rail) (record { low = (demand_at demands i).low; high = (demand_at demands i).high })))

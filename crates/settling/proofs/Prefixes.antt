@@ -12,10 +12,6 @@ next_is modes n m long = get_or-set_same modes n m 0 long
 
 -- b begins with the first n of a
 module _ (n : ℕ) (a b : List ℕ) (same : Same n b a) where
-  pub before_on : (s : List ℕ) → Before n s a → Before (n + 1) s b
-  before_on s f =
-      (f.0, (omega (arith, f.1.0), (λ j h. f.1.1.0 j h ∙ sym (same j (omega (arith, f.1.0))), omega (arith, f.1.1.1, same f.0 f.1.0))))
-
   -- what comes before b on one unit more does not come after a
   pub before_back : (s : List ℕ) → Before (n + 1) s b → Before n s a ⊎ Same n s a
   before_back s f =

@@ -10,7 +10,7 @@ use Rattle.settling.specs.Tolls.{Toll, Laws, cost_to, cost}
 use Rattle.settling.specs.Narrowing.{Open}
 use Rattle.settling.specs.Searching.{Reached, Earlier, NotAfter, Stands, Found, Covers, Searched, Tried}
 use Rattle.settling.proofs.Costs.{cost_same, cost_rises}
-use Rattle.settling.proofs.Prefixes.{goes_on, next_is, before_on, before_back, before_next, never_before}
+use Rattle.settling.proofs.Prefixes.{goes_on, next_is, before_back, before_next, never_before}
 
 -- no choice that fits goes on with a pass mode
 pub not_rest : (units : List Device) (demands : List Demand) (n m : ℕ) (modes : List ℕ) → n < length units → n < length modes → (mode_at (unit_at units n) m).kind ≡ Kind.Pass → (c : List ℕ) → Fits units demands c → Same (n + 1) c (set modes n m) → ⊥
@@ -24,10 +24,6 @@ not_rest units demands n m modes lt long pass c fits same =
 
 -- what is found keeps its place as the next mode rises
 module _ {C : Type 0} (n : ℕ) (modes : List ℕ) (long : n < length modes) where
-  earlier_on : (best : Option (Draft C)) → Earlier n best modes → Earlier (n + 1) best (set modes n 0)
-  earlier_on None early = tt
-  earlier_on (Some s) early = before_on n modes (set modes n 0) (goes_on modes n 0) s.modes early
-
   earlier_next : (m : ℕ) (r : Option (Draft C)) → NotAfter (n + 1) r (set modes n m) → Earlier (n + 1) r (set modes n (m + 1))
   earlier_next m None place = tt
   earlier_next m (Some s) place =
@@ -92,14 +88,6 @@ module _ {C : Type 0} {t : Toll C} {units : List Device} {demands : List Demand}
 
   -- the loop over the modes of unit n
   module _ {n : ℕ} {modes : List ℕ} (long : n < length modes) where
-    pub tried_none : (best : Option (Draft C)) → Found t units demands best → Earlier n best modes → Tried t units demands n 0 modes best best
-    tried_none best found early = record {
-      found = found;
-      place = earlier_on n modes long best early;
-      covers = λ c fits same below. absurd (omega arith);
-      keeps = λ c h. h;
-    }
-
     pub tried_more : {m : ℕ} {old best r : Option (Draft C)} → Tried t units demands n m modes old best → Searched t units demands (n + 1) (set modes n m) best r → Tried t units demands n (m + 1) modes old r
     tried_more {m} {old} {best} {r} tried searched = record {
       found = searched.found;

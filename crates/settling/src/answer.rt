@@ -13,7 +13,7 @@ use platform::{Bounds, Mix, Platform};
 use sheets::Demand;
 
 // A choice, with the window that it leaves each rail, the windows' lows, and its cost.
-#[derive(Clone, Copy)]
+#[derive(Clone, Copy, Debug, PartialEq, Eq)]
 pub struct Settled<C> {
     pub modes: [u8; 24],
     pub windows: [Bounds; 24],

@@ -9,7 +9,7 @@ use crate::cost::Cost;
 use crate::windows::narrowed;
 use platform::{Bounds, Unit};
 
-// The units that have no mode yet are at mode 0.
+// The units that have no mode yet are at mode 0. Fixed memory: settling does not allocate.
 #[derive(Clone, Copy)]
 pub(crate) struct Draft<C> {
     pub(crate) modes: [u8; 24],

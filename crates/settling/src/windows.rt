@@ -7,6 +7,12 @@ ghost use Rattle.settling.specs.Narrowing.{shared, Hold, Open, Still};
 use platform::{Bounds, Mode, Unit};
 use sheets::Demand;
 
+// The window of a rail that no demand is on.
+const ALL: Bounds = Bounds {
+    low: 0,
+    high: u16::MAX,
+};
+
 // What two bounds have in common.
 fn common(one: Bounds, other: Bounds) -> Bounds
     ensures { result ≡ shared one other }
@@ -22,10 +28,7 @@ pub(crate) fn demanded(demands: &[Demand]) -> [Bounds; 24]
     requires { Known 24 demands.now }
     ensures { Hold (Demanded demands.now) result }
 {
-    let mut windows = [Bounds {
-        low: 0,
-        high: 65535,
-    }; 24];
+    let mut windows = [ALL; 24];
     for demand in demands {
         let rail = demand.rail as usize;
         let wanted = Bounds {

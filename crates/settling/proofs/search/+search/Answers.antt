@@ -1,4 +1,4 @@
-use Rattle.std.proofs.Common.{◌≡◌, ℕ, ◌+◌, ◌<◌, ◌≤◌, List, length, sym, ap, subst, arith, rules}
+use Rattle.std.proofs.Common.{◌≡◌, ℕ, ◌+◌, ◌<◌, ◌≤◌, List, length, set, sym, ap, subst, arith, rules}
 use Rattle.std.proofs.lemmas.Bool.Decides.{not_from_Decides}
 use Rattle.sheets.specs.declared.rows.Kind.{Kind}
 use Rattle.platform.specs.Units.{unit_at, mode_at}
@@ -37,8 +37,10 @@ search-found-requires g t c κs within =
     let mode = c.loop-mode.mode in
     let next = next_unit c.args.task.platform.now c.units.result.now at c.in-Some.unit.now c.units.ensures.value c.in-Some.ensures.lookup.3.0 c.in-Some.ensures.lookup.1 in
     let below : mode < length (device c.in-Some.unit.now).modes = search rules in
-    let kind = kind_read c.in-Some.unit.now c.deref-chosen-items.result.now mode _ _ c.deref-chosen-items.ensures.value c.loop-mode-test.true in
-    let rest : (mode_at (device c.in-Some.unit.now) mode).kind ≡ Kind.Rest = elim c.match-matches.branch [ in-Rest w ↦ kind w.in-Rest.is | in_default-matches w ↦ cc (w.matches-is, c.if-matches.true) ] in
+    let rest : (mode_at (device c.in-Some.unit.now) mode).kind ≡ Kind.Rest = elim c.match-matches.branch [
+      | in-Rest w ↦ kind_read c.in-Some.unit.now c.deref-chosen-items.result.now mode _ Kind.Rest c.deref-chosen-items.ensures.value c.loop-mode-test.true w.in-Rest.is
+      | in_default-matches w ↦ cc (w.matches-is, c.if-matches.true)
+    ] in
     let extends : Extends g.C.Cost.toll (unit_at us at) at mode c.args.draft c.extended.result = rw next.is c.extended.ensures in
     let more = stands_more g.C.Cost.laws c.requires.stands extends (place next.sound c.requires.stands next.within) (rw next.is (below, rest)) in
     let early = subst (λ (ms : List ℕ). Earlier (at + 1) c.loop-mode.found ms) (sym extends.modes) c.loop-mode.invariant.place in
@@ -47,18 +49,25 @@ search-found-requires g t c κs within =
 pub loop-mode-preserved : goal.loop-mode-preserved
 loop-mode-preserved g t c =
     let us = units_of c.args.task.platform.now in
+    let demands = c.args.task.demands.now in
+    let modes = c.args.draft.modes in
+    let best = c.loop-mode.found in
+    let tried = c.loop-mode.invariant in
     let next = next_unit c.args.task.platform.now c.units.result.now c.args.at c.in-Some.unit.now c.units.ensures.value c.in-Some.ensures.lookup.3.0 c.in-Some.ensures.lookup.1 in
     let mode = c.loop-mode.mode in
-    let kind = kind_read c.in-Some.unit.now c.deref-chosen-items.result.now mode _ _ c.deref-chosen-items.ensures.value c.loop-mode-test.true in
     let long = place next.sound c.requires.stands next.within in
     elim c.if-matches.branch [
       | then-matches w ↦
           let searched = rw w.extended.ensures.modes at w.search-found.ensures in
-          rw w.found-is (tried_more long {old = c.args.best} {r = w.search-found.result} c.loop-mode.invariant searched)
+          rw w.found-is (tried_more {units = us} {demands = demands} {modes = modes} long {old = c.args.best} {r = w.search-found.result} tried searched)
       | else-matches w ↦
-          let pass : (mode_at (device c.in-Some.unit.now) mode).kind ≡ Kind.Pass = elim c.match-matches.branch [ in-Rest v ↦ cc (v.matches-is, w.if-matches.false) | in_default-matches v ↦ kind v.in_default-matches.is ] in
-          let none = not_rest us c.args.task.demands.now c.args.at mode c.args.draft.modes next.within long (rw next.is pass) in
-          rw w.found-is (tried_more long {old = c.args.best} {r = c.loop-mode.found} c.loop-mode.invariant (skipped c.loop-mode.found c.loop-mode.invariant.found c.loop-mode.invariant.place none))
+          let pass : (mode_at (device c.in-Some.unit.now) mode).kind ≡ Kind.Pass = elim c.match-matches.branch [
+            | in-Rest v ↦ cc (v.matches-is, w.if-matches.false)
+            | in_default-matches v ↦ kind_read c.in-Some.unit.now c.deref-chosen-items.result.now mode _ Kind.Pass c.deref-chosen-items.ensures.value c.loop-mode-test.true v.in_default-matches.is
+          ] in
+          let none = not_rest us demands c.args.at mode modes next.within long (rw next.is pass) in
+          let same = skipped {n = c.args.at + 1} {modes = set modes c.args.at mode} best tried.found tried.place none in
+          rw w.found-is (tried_more {units = us} {demands = demands} {modes = modes} long {old = c.args.best} {r = best} tried same)
     ]
 
 pub returns : goal.returns

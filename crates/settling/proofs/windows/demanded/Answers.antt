@@ -2,11 +2,8 @@ use Rattle.std.proofs.Common.{◌≡◌, ◌+◌, length, set, subst, arith, rul
 use Rattle.platform.specs.declared.parts.Bounds.{Bounds}
 use Rattle.settling.specs.Choices.{demand_at, DemandedTo}
 use Rattle.settling.specs.Narrowing.{Hold}
-use Rattle.settling.proofs.Holds.{whole, demand_more}
+use Rattle.settling.proofs.Holds.{demand_more}
 use Rattle.settling.proofs.windows.demanded.Goals as goal
-
-pub loop-demand-init : goal.loop-demand-init
-loop-demand-init c = (search rules, whole c.args.demands.now)
 
 pub loop-demand-preserved : goal.loop-demand-preserved
 loop-demand-preserved c =
@@ -18,5 +15,5 @@ loop-demand-preserved c =
 
 pub returns : goal.returns
 returns c =
-    let e : c.loop-demand.demand-index ≡ length c.args.demands.now = omega arith in
-    subst (λ i. Hold (DemandedTo i c.args.demands.now) c.loop-demand.windows) e c.loop-demand.invariant.1
+    let all : c.loop-demand.demand-index ≡ length c.args.demands.now = omega arith in
+    rw all at c.loop-demand.invariant.1
