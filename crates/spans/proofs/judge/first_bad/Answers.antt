@@ -5,4 +5,4 @@ use Rattle.spans.proofs.judge.first_bad.Goals as goal
 
 pub returns : goal.returns
 returns c =
-    judged_in c.args.platform.now c.args.spans.now c.units.result.now c.args.unit c.in_ok-unit.unit.now c.units.ensures.value (search rules) (search rules) (search rules) (values_of (replicate 4 0)) c.first_unheld.result c.first_unheld.ensures
+    judged_in c.args.platform.now c.args.spans.now c.args.unit c.in_ok-unit.unit.now (search rules) (search rules) (search rules) (values_of (replicate 4 0)) c.first_unheld.result c.first_unheld.ensures
