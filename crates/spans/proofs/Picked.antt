@@ -9,7 +9,7 @@ use Rattle.platform.specs.declared.parts.Bounds.{Bounds}
 use Rattle.platform.specs.declared.unit.Unit.{Unit}
 use Rattle.platform.specs.declared.platform.Platform.{Platform}
 use Rattle.platform.specs.Units.{Device, no_device, unit_at}
-use Rattle.platform.specs.Devices.{device, devices}
+use Rattle.platform.specs.Devices.{device}
 use Rattle.platform.specs.Making.{model_of}
 use Rattle.platform.proofs.Checking.{unit_is, as_many, match_weaker}
 use Rattle.spans.specs.declared.judge.BadUnit.{BadUnit}
@@ -20,12 +20,12 @@ use Rattle.spans.specs.Picking.{SafeBelow, NonePicked, LowestPicked}
 use Rattle.spans.proofs.Mixes.{judged}
 
 -- what the search answers for a unit of a platform
-module _ (p : Platform) (spans : List Bounds) (us : List Unit) (k : ℕ) (u : Unit) (are : us ≡ vec_items p.units) (wide : Open p.rails spans) (lt : k < length us) (is : u ≡ get_or us k u) where
+module _ (p : Platform) (spans : List Bounds) (k : ℕ) (u : Unit) (wide : Open p.rails spans) (lt : k < length (vec_items p.units)) (is : u ≡ get_or (vec_items p.units) k u) where
   here : unit_at (model_of p).units k ≡ device u
-  here = subst (λ (xs : List Unit). unit_at (devices xs) k ≡ device u) are (unit_is us k u lt is)
+  here = unit_is (vec_items p.units) k u lt is
 
   there : k < length (model_of p).units
-  there = subst (λ (xs : List Unit). k < length (devices xs)) are (omega (arith, lt, as_many us))
+  there = omega (arith, lt, as_many (vec_items p.units))
 
   judged_there : (vs : ℕ → ℕ) (answer : Option (List ℕ)) → Seeks (device u) spans 0 vs answer → MatchOption answer (SafeAt (model_of p) spans k) (λ values. BadAt (model_of p) spans k values)
   judged_there vs answer seeks =

@@ -44,14 +44,11 @@ pub fn first_bad(
 ) -> Result<Option<[u16; 4]>, NoUnit>
     ensures { Judges (model_of platform.now) spans.now unit result }
 {
-    let units = platform.units();
-    if unit >= units.len() {
-        return Err(NoUnit);
-    }
+    let unit = platform.units().get(unit).ok_or(NoUnit)?;
     if !all_open(platform, spans) {
         return Ok(None);
     }
-    Ok(first_unheld(&units[unit], spans))
+    Ok(first_unheld(unit, spans))
 }
 
 // The lowest of the picked units for which the spans are not safe, with its first bad values.
@@ -66,10 +63,14 @@ pub(crate) fn lowest_picked<F: Fn(&Unit) -> bool>(
     if !all_open(platform, spans) {
         return None;
     }
-    for (unit, at) in platform.units().iter().enumerate() {
-        if picks(at) {
-            if let Some(values) = first_unheld(at, spans) {
-                return Some(BadUnit { unit, values });
+    let units = platform.units();
+    for (number, unit) in units.iter().enumerate() {
+        if picks(unit) {
+            if let Some(values) = first_unheld(unit, spans) {
+                return Some(BadUnit {
+                    unit: number,
+                    values,
+                });
             }
         }
     }

@@ -28,8 +28,8 @@ impl Trial<'_> {
         ensures { Keeps (length (device self.now.unit.now).modes) (device self.now.unit.now) self.now.pin value self.now.alive result }
     {
         let mut kept = [false; 6];
-        for (mode, at) in self.unit.modes.iter().enumerate() {
-            kept[mode] = self.alive[mode] && at.bounds[self.pin].holds(value);
+        for (number, mode) in self.unit.modes.iter().enumerate() {
+            kept[number] = self.alive[number] && mode.bounds[self.pin].holds(value);
         }
         kept
     }

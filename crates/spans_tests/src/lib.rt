@@ -4,7 +4,7 @@
 #[cfg(test)]
 mod tests {
     use platform::{Bounds, Inquiry, read_inquiry};
-    use spans::{NoUnit, first_bad, lowest_bad, lowest_bad_on};
+    use spans::{BadUnit, NoUnit, first_bad, lowest_bad, lowest_bad_on};
     use std::alloc::Global;
     use std::test::Fail;
 
@@ -36,8 +36,11 @@ mod tests {
         assert!(rt; first_bad(&board.platform, 1, &moving) == Ok(Some([0, 1, 0, 0])));
         assert!(rt; first_bad(&board.platform, 2, &moving) == Ok(None));
         assert!(rt; first_bad(&board.platform, 3, &moving) == Err(NoUnit));
-        let bad = lowest_bad(&board.platform, &moving).ok_or("safe")?;
-        assert!(rt; (bad.unit == 1) & (bad.values == [0, 1, 0, 0]));
+        let bad = BadUnit {
+            unit: 1,
+            values: [0, 1, 0, 0],
+        };
+        assert!(rt; lowest_bad(&board.platform, &moving) == Some(bad));
         Ok(())
     }
 
@@ -46,10 +49,16 @@ mod tests {
     fn rail_0_too_high(rt: HostRuntime) -> Result<(), Fail> {
         let board = small_board(rt.alloc()).ok_or("refused")?;
         let moving = spans((0, 20000), (0, 0));
-        let bad = lowest_bad(&board.platform, &moving).ok_or("safe")?;
-        assert!(rt; (bad.unit == 0) & (bad.values == [12601, 0, 0, 0]));
-        let bad = lowest_bad_on(&board.platform, 1, &moving).ok_or("safe")?;
-        assert!(rt; (bad.unit == 1) & (bad.values == [14001, 0, 0, 0]));
+        let bad = BadUnit {
+            unit: 0,
+            values: [12601, 0, 0, 0],
+        };
+        assert!(rt; lowest_bad(&board.platform, &moving) == Some(bad));
+        let bad = BadUnit {
+            unit: 1,
+            values: [14001, 0, 0, 0],
+        };
+        assert!(rt; lowest_bad_on(&board.platform, 1, &moving) == Some(bad));
         assert!(rt; lowest_bad_on(&board.platform, 2, &moving).is_none());
         assert!(rt; lowest_bad(&board.platform, &spans((0, 20000), (1, 0))).is_none());
         Ok(())

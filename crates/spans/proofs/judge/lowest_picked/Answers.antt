@@ -1,6 +1,5 @@
-use Rattle.std.proofs.Common.{◌⊎◌, true, false, length, replicate, ap, subst, inl, inr, List, ◌<◌, arith, rules}
+use Rattle.std.proofs.Common.{◌≡◌, ◌⊎◌, true, false, get_or, length, vec_items, replicate, inl, inr, ◌<◌, rules}
 use Rattle.std.proofs.lemmas.List.Elements.{at_read, AllWithin-more}
-use Rattle.std.specs.List.{HoldsAt, AllWithin}
 use Rattle.std.specs.Fn.{FnReturnsAt}
 use Rattle.std.proofs.lemmas.Fn.{says_at}
 use Rattle.platform.specs.declared.unit.Unit.{Unit}
@@ -14,31 +13,26 @@ use Rattle.spans.proofs.judge.lowest_picked.Goals.{then-picks+in_default, else-p
 pub returns-in-Some : goal.returns-in-Some
 returns-in-Some g c =
     let p = c.args.platform.now in
-    let us = c.units-at-items.result.now in
-    let are = c.units-at-items.ensures.value in
-    let k = c.loop-unit.unit in
-    let Picked : Unit → Type 0 = λ u. FnReturnsAt g.F.Fn c.args.picks u true in
+    let k = c.loop-number.number in
+    let u = c.index-units-number.result in
+    let lt : k < length (vec_items p.units) = search rules in
+    let is : u ≡ get_or (vec_items p.units) k u = search rules in
     record {
-      there = subst (λ (xs : List Unit). k < length xs) are c.loop-unit-test.true;
-      picked = subst (λ (xs : List Unit). HoldsAt Picked xs k) are (at_read us Picked k c.at-item.result c.loop-unit-test.true c.at-item.is (says_at g.F.Fn c.picks.ensures c.if-picks.true));
-      bad = bad_there p c.args.spans.now us k c.at-item.result are (search rules) c.loop-unit-test.true c.at-item.is (values_of (replicate 4 0)) c.in-Some.values c.in-Some.ensures;
-      lowest = subst (λ (xs : List Unit). AllWithin (λ u. FnReturnsAt g.F.Fn c.args.picks u false ⊎ SafeFor p.rails c.args.spans.now (device u)) xs 0 k) are c.loop-unit.invariant;
+      there = lt;
+      picked = at_read (vec_items p.units) (λ v. FnReturnsAt g.F.Fn c.args.picks v true) k u lt is (says_at g.F.Fn c.picks.ensures c.if-picks.true);
+      bad = bad_there p c.args.spans.now k u (search rules) lt is (values_of (replicate 4 0)) c.in-Some.values c.in-Some.ensures;
+      lowest = c.loop-number.invariant;
     }
 
-pub loop-unit-preserved : goal.loop-unit-preserved
-loop-unit-preserved g c =
+pub loop-number-preserved : goal.loop-number-preserved
+loop-number-preserved g c =
     let p = c.args.platform.now in
-    let us = c.units-at-items.result.now in
-    let Left : Unit → Type 0 = λ u. FnReturnsAt g.F.Fn c.args.picks u false ⊎ SafeFor p.rails c.args.spans.now (device u) in
-    AllWithin-more Left us 0 c.loop-unit.unit c.loop-unit.invariant (at_read us Left c.loop-unit.unit c.at-item.result c.loop-unit-test.true c.at-item.is (elim c.if-picks.branch [
-      | then-picks+in_default w ↦
-          inr (safe_there p c.args.spans.now us c.loop-unit.unit c.at-item.result c.units-at-items.ensures.value (search rules) c.loop-unit-test.true c.at-item.is (values_of (replicate 4 0)) w.in_default.ensures)
+    let k = c.loop-number.number in
+    let u = c.index-units-number.result in
+    let lt : k < length (vec_items p.units) = search rules in
+    let is : u ≡ get_or (vec_items p.units) k u = search rules in
+    let Left : Unit → Type 0 = λ v. FnReturnsAt g.F.Fn c.args.picks v false ⊎ SafeFor p.rails c.args.spans.now (device v) in
+    AllWithin-more Left (vec_items p.units) 0 k c.loop-number.invariant (at_read (vec_items p.units) Left k u lt is (elim c.if-picks.branch [
+      | then-picks+in_default w ↦ inr (safe_there p c.args.spans.now k u (search rules) lt is (values_of (replicate 4 0)) w.in_default.ensures)
       | else-picks w ↦ inl (says_at g.F.Fn c.picks.ensures w.if-picks.false)
     ]))
-
-pub returns : goal.returns
-returns g c = λ k d low lt.
-    let p = c.args.platform.now in
-    let us = c.units-at-items.result.now in
-    let Left : Unit → Type 0 = λ u. FnReturnsAt g.F.Fn c.args.picks u false ⊎ SafeFor p.rails c.args.spans.now (device u) in
-    subst (λ (xs : List Unit). AllWithin Left xs 0 (length us)) c.units-at-items.ensures.value (λ k d low lt. c.loop-unit.invariant k d low (omega (arith, lt, c.loop-unit-test.false))) k d low (omega (arith, lt, ap length c.units-at-items.ensures.value))

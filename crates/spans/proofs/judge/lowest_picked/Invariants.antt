@@ -1,10 +1,6 @@
-use Rattle.std.proofs.Common.{◌⊎◌, false}
-use Rattle.std.specs.List.{AllWithin}
 use Rattle.std.specs.Fn.{FnReturnsAt}
-use Rattle.platform.specs.Devices.{device}
-use Rattle.spans.specs.Safety.{SafeFor}
+use Rattle.spans.specs.Picking.{SafeBelow}
 use Rattle.spans.proofs.judge.lowest_picked.Given as goal
 
-abbrev pub invariant-loop-unit : goal.invariant-loop-unit
-invariant-loop-unit g l =
-    AllWithin (λ u. FnReturnsAt g.F.Fn l.picks u false ⊎ SafeFor l.platform.rails l.spans (device u)) l.at-items 0 l.unit
+abbrev pub invariant-loop-number : goal.invariant-loop-number
+invariant-loop-number g l = SafeBelow (FnReturnsAt g.F.Fn l.picks) l.platform l.spans l.number
