@@ -22,6 +22,7 @@ impl From<SheetFault> for PlatformFault {
     }
 }
 
+// The library has two errors for want of memory, and `?` asks for a conversion of each.
 impl From<AllocError> for PlatformFault {
     ghost from_gives = { λ _ r. r ≡ Memory };
 

@@ -5,6 +5,7 @@ ghost use Rattle.faults.specs.declared.sheet.SheetFault.TheVariants.{Memory};
 use std::alloc::{AllocError, AllocFailed};
 
 // The sheet by its number, and its line counted from the names line, which is 0.
+// A number and no kind: a sheet of any layout may be read, and its number is what a refusal shows.
 #[derive(Clone, Copy, Debug, PartialEq, Eq)]
 pub enum SheetFault {
     TooLong { sheet: u8 },
@@ -17,6 +18,7 @@ pub enum SheetFault {
     Memory,
 }
 
+// The library has two errors for want of memory, and `?` asks for a conversion of each.
 impl From<AllocError> for SheetFault {
     ghost from_gives = { λ _ r. r ≡ Memory };
 

@@ -7,20 +7,12 @@ use std::io;
 use std::io::Read;
 
 // One more byte than an input may have: what is past that makes no difference.
-const ENOUGH: usize = 65536;
+const ENOUGH: u64 = 65536;
 
 // The input's bytes, as far as they matter.
 fn read_input(rt: &HostRuntime) -> io::Result<Vec<u8>> {
     let mut input = Vec::new(rt.alloc());
-    let mut stdin = rt.stdin();
-    let mut buffer = [0u8; 4096];
-    for _ in 0..ENOUGH {
-        let count = stdin.read(&mut buffer)?;
-        if count == 0 || input.len() >= ENOUGH {
-            break;
-        }
-        input.extend_from_slice(&buffer[0..count])?;
-    }
+    rt.stdin().take(ENOUGH).read_to_end(&mut input)?;
     Ok(input)
 }
 

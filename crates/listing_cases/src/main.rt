@@ -6,9 +6,6 @@ use listings::report_on;
 use sheets::read_demands;
 use std::io::{Read, Write};
 
-// More cases than there are.
-const MOST: usize = 1000;
-
 fn show(rt: &HostRuntime, name: &[u8], input: &[u8]) -> anyhow::Result<()> {
     rt.stdout().write_all(name)?;
     println!(rt; "")?;
@@ -30,30 +27,12 @@ fn show_long_sheet(rt: &HostRuntime, length: usize) -> anyhow::Result<()> {
     Ok(())
 }
 
-// Shows the first case and answers what follows it.
-fn show_first<'a>(rt: &HostRuntime, rest: &'a [u8]) -> anyhow::Result<&'a [u8]> {
-    let name = text::find(rest, b'%');
-    if name == rest.len() {
-        return Ok(&rest[name..]);
-    }
-    let body = &rest[name + 1..];
-    let end = text::find(body, b'%');
-    show(rt, &rest[0..name], &body[0..end])?;
-    if end == body.len() {
-        return Ok(&body[end..]);
-    }
-    Ok(&body[end + 1..])
-}
-
 fn main(rt: HostRuntime) -> anyhow::Result<()> {
     let mut all = Vec::new(rt.alloc());
     rt.stdin().read_to_end(&mut all)?;
-    let mut rest = all.as_slice();
-    for _ in 0..MOST {
-        if rest.is_empty() {
-            break;
-        }
-        rest = show_first(&rt, rest)?;
+    let parts: Vec<&[u8]> = all.split(|b| *b == b'%').collect(rt.alloc())?;
+    for case in parts.chunks_exact(2) {
+        show(&rt, case[0], case[1])?;
     }
     show_long_sheet(&rt, 65535)?;
     show_long_sheet(&rt, 65536)?;

@@ -92,6 +92,7 @@ pub(crate) fn units_from(heap: Global, sheets: &Sheets) -> Result<Vec<Unit>, All
     ensures { IfOk result (λ v. devices v.items ≡ map (unit_from (rows_of sheets.now)) (range_with_len 0 (unit_count (rows_of sheets.now).pins))) }
 {
     let mut out = Vec::new(heap);
+    // A unit is built from its number: there is no list of units yet to go over.
     for unit in 0..units_of(&sheets.pins) {
         out.push(unit_from(heap, sheets, unit)?)?;
     }

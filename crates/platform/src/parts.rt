@@ -66,7 +66,7 @@ pub struct Mode {
     pub bounds: [Bounds; 4],
 }
 
-// A value in millivolts for each rail; those past the last rail are not read.
+// A value in millivolts for each rail; those past the last rail are not read. A board has 24 rails at most.
 #[derive(Clone, Copy, Debug, PartialEq, Eq)]
 pub struct Mix {
     pub values: [u16; 24],

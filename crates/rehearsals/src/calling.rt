@@ -13,6 +13,7 @@ use std::array;
 pub fn make_call<B: Board>(run: &mut Run, board: &mut B, call: Call) -> Outcome
     ensures { (moments : List B) × Ran B.Board run.old board.old call result moments run.new board.new }
 {
+    // A call is plain data that a list holds: a closure would not be.
     match call {
         Call::Advance => run
             .advance(board)

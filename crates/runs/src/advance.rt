@@ -15,6 +15,7 @@ impl Journey {
         let Some(step) = self.current() else {
             return Answer::Arrived;
         };
+        // One match in place decides: a run is worked by plain data alone.
         match (self.direction, step) {
             (Direction::Forward, Step::Start { rail, target }) => {
                 send(board, rail, target);

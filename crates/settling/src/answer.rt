@@ -13,6 +13,7 @@ use platform::{Bounds, Mix, Platform};
 use sheets::Demand;
 
 // A choice, with the window that it leaves each rail, the windows' lows, and its cost.
+// Fixed memory: settling does not allocate, and a platform has 24 units and 24 rails at most.
 #[derive(Clone, Copy, Debug, PartialEq, Eq)]
 pub struct Settled<C> {
     pub modes: [u8; 24],

@@ -8,17 +8,10 @@ ghost use Rattle.spans.specs.Searching.{Open};
 
 use crate::search::first_unheld;
 use platform::{Bounds, Platform, Unit};
-use std::fmt;
 
 // The platform has no unit of this number.
 #[derive(Clone, Copy, Debug, PartialEq, Eq)]
 pub struct NoUnit;
-
-impl fmt::Display for NoUnit {
-    fn fmt<W: fmt::Write>(&self, f: &mut fmt::Formatter<W>) -> fmt::Result {
-        f.write_str("the platform has no such unit")
-    }
-}
 
 // A unit with the values of its pins at its first bad mix, 0 past its last pin.
 #[derive(Clone, Copy, Debug, PartialEq, Eq)]
