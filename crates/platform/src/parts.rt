@@ -66,7 +66,7 @@ pub struct Mode {
     pub bounds: [Bounds; 4],
 }
 
-// A value in millivolts for each rail; those past the last rail are not read. A board has 24 rails at most.
+// A value in millivolts for each of the 24 rails that a board may have; values of rails that it lacks are not looked at.
 #[derive(Clone, Copy, Debug, PartialEq, Eq)]
 pub struct Mix {
     pub values: [u16; 24],
