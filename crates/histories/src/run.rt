@@ -23,7 +23,7 @@ pub enum Answer {
     Arrived,
 }
 
-// An advance's answer, a granted turn or close, or a refusal.
+// An advance's answer, a granted turn or close, or a refusal: three names say it plainer than an Option in a Result.
 #[derive(Clone, Copy, Debug, PartialEq, Eq)]
 pub enum Outcome {
     Answered(Answer),

@@ -1,5 +1,5 @@
 // Writes out a settled platform, or a refusal.
-ghost use Rattle.std.specs.Prelude.{◌≡◌, ◌≤◌, ◌++◌, IfOk, string_bytes, OnOk};
+ghost use Rattle.std.specs.Prelude.{◌≡◌, ◌++◌, length, IfOk, string_bytes, OnOk};
 ghost use Rattle.std.specs.List.{range_with_len, flat_map};
 ghost use Rattle.platform.specs.Making.{model_of};
 ghost use Rattle.faults.specs.Numbers.{listing_refusal};
@@ -21,30 +21,41 @@ fn write_total(out: &mut String, total: HeatThenDraw) -> Result<(), fmt::Error>
 }
 
 // A line for each of the first units.
-fn unit_lines<C>(out: &mut String, choice: &Settled<C>, units: usize) -> Result<(), fmt::Error>
-    requires { units ≤ 24 }
-    ensures { OnOk result (string_bytes out.new ≡ string_bytes out.old ++ flat_map (unit_line choice.now.modes) (range_with_len 0 units)) }
+fn unit_lines<C>(
+    out: &mut String,
+    choice: &Settled<C>,
+    platform: &Platform,
+) -> Result<(), fmt::Error>
+    ensures { OnOk result (string_bytes out.new ≡ string_bytes out.old ++ flat_map (unit_line choice.now.modes) (range_with_len 0 (length (model_of platform.now).units))) }
 {
+    let units = platform.units().len();
     for (unit, mode) in choice.modes[..units].iter().enumerate() {
         writeln!(out, "{unit},{mode}")?;
     }
     Ok(())
 }
 
-fn write_units<C>(out: &mut String, choice: &Settled<C>, units: usize) -> Result<(), fmt::Error>
-    requires { units ≤ 24 }
-    ensures { OnOk result (string_bytes out.new ≡ string_bytes out.old ++ units_text choice.now.modes units) }
+fn write_units<C>(
+    out: &mut String,
+    choice: &Settled<C>,
+    platform: &Platform,
+) -> Result<(), fmt::Error>
+    ensures { OnOk result (string_bytes out.new ≡ string_bytes out.old ++ units_text choice.now.modes (length (model_of platform.now).units)) }
 {
     writeln!(out, "unit,mode")?;
-    unit_lines(out, choice, units)?;
+    unit_lines(out, choice, platform)?;
     Ok(())
 }
 
 // A line for each of the first rails. Units and rails have no function in common here: a line of each has columns of its own.
-fn rail_lines<C>(out: &mut String, choice: &Settled<C>, rails: usize) -> Result<(), fmt::Error>
-    requires { rails ≤ 24 }
-    ensures { OnOk result (string_bytes out.new ≡ string_bytes out.old ++ flat_map (rail_line choice.now.windows choice.now.targets.values) (range_with_len 0 rails)) }
+fn rail_lines<C>(
+    out: &mut String,
+    choice: &Settled<C>,
+    platform: &Platform,
+) -> Result<(), fmt::Error>
+    ensures { OnOk result (string_bytes out.new ≡ string_bytes out.old ++ flat_map (rail_line choice.now.windows choice.now.targets.values) (range_with_len 0 platform.now.rails)) }
 {
+    let rails = platform.rails() as usize;
     for (rail, window) in choice.windows[..rails].iter().enumerate() {
         let Bounds { low, high } = *window;
         let target = choice.targets.values[rail];
@@ -53,12 +64,15 @@ fn rail_lines<C>(out: &mut String, choice: &Settled<C>, rails: usize) -> Result<
     Ok(())
 }
 
-fn write_rails<C>(out: &mut String, choice: &Settled<C>, rails: usize) -> Result<(), fmt::Error>
-    requires { rails ≤ 24 }
-    ensures { OnOk result (string_bytes out.new ≡ string_bytes out.old ++ rails_text choice.now.windows choice.now.targets.values rails) }
+fn write_rails<C>(
+    out: &mut String,
+    choice: &Settled<C>,
+    platform: &Platform,
+) -> Result<(), fmt::Error>
+    ensures { OnOk result (string_bytes out.new ≡ string_bytes out.old ++ rails_text choice.now.windows choice.now.targets.values platform.now.rails) }
 {
     writeln!(out, "rail,low,high,target")?;
-    rail_lines(out, choice, rails)?;
+    rail_lines(out, choice, platform)?;
     Ok(())
 }
 
@@ -71,8 +85,8 @@ pub(crate) fn write_choice<C>(
     ensures { OnOk result (string_bytes out.new ≡ string_bytes out.old ++ settled_text (model_of platform.now) choice.now) }
 {
     write_total(out, cost_of(platform, choice.modes))?;
-    write_units(out, choice, platform.units().len())?;
-    write_rails(out, choice, platform.rails() as usize)?;
+    write_units(out, choice, platform)?;
+    write_rails(out, choice, platform)?;
     Ok(())
 }
 

@@ -8,7 +8,7 @@ use crate::parts::Pin;
 use crate::unit::Unit;
 use sheets::Way;
 
-// Is no later pin on the rail of this one?
+// Is no later pin on the rail of this one? Tried: with the pin itself and those after it handed on, the proof did not close.
 fn alone(unit: &Unit, at: usize) -> bool
     requires { at < length (device unit.now).pins }
     ensures { Decides result (AloneTo (length (device unit.now).pins) (device unit.now) at) }

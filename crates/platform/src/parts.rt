@@ -3,7 +3,7 @@ ghost use Rattle.std.specs.Prelude.{◌≡◌, ◌≤◌, Decides};
 ghost use Rattle.platform.specs.Units.{Within};
 ghost use Rattle.platform.specs.Describing.{pin_from, bounds_from};
 
-use sheets::{BoundRow, Kind, PinRow, Way};
+use sheets::{BoundRow, Demand, Kind, PinRow, Way};
 
 // A low and a high in millivolts, both included.
 #[derive(Clone, Copy, Debug, PartialEq, Eq)]
@@ -35,6 +35,17 @@ impl From<BoundRow> for Bounds {
         Bounds {
             low: row.low,
             high: row.high,
+        }
+    }
+}
+
+impl From<Demand> for Bounds {
+    ghost from_gives = { λ demand bounds. (bounds.low ≡ demand.low) × (bounds.high ≡ demand.high) };
+
+    fn from(demand: Demand) -> Bounds {
+        Bounds {
+            low: demand.low,
+            high: demand.high,
         }
     }
 }

@@ -10,7 +10,7 @@ use crate::platform::Platform;
 use crate::unit::Unit;
 use sheets::Kind;
 
-// Is the unit in the mode?
+// Is the unit in the mode? It is told by its number, as definitions name it.
 fn in_mode(unit: &Unit, mode: usize, mix: Mix) -> bool
     requires { mode < length (device unit.now).modes }
     ensures { Decides result (InMode (device unit.now) mode mix.values) }

@@ -13,7 +13,6 @@ use std::array;
 pub fn make_call<B: Board>(run: &mut Run, board: &mut B, call: Call) -> Outcome
     ensures { (moments : List B) × Ran B.Board run.old board.old call result moments run.new board.new }
 {
-    // A call is plain data that a list holds: a closure would not be.
     match call {
         Call::Advance => run
             .advance(board)
@@ -32,10 +31,7 @@ fn value_on<B: Board>(board: &B, rail: usize) -> u16
     requires { rail < 24 }
     ensures { rail < B.Board.rails board.now → result ≡ B.Board.value board.now rail }
 {
-    match board.look(rail as u8) {
-        Ok((value, _)) => value,
-        Err(_) => 0,
-    }
+    board.look(rail as u8).map_or(0, |(value, _)| value)
 }
 
 // Notes an outcome with the values that the board has now.

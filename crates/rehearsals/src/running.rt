@@ -12,6 +12,7 @@ use runs::{OpenFault, Run};
 use scripts::Proposal;
 
 // Makes the calls on an open run, up to the first granted close, as far as the log has room.
+// Fixed memory: the log is the caller's, and a run is worked without a heap.
 fn make_calls<B: Board>(run: &mut Run, board: &mut B, calls: &[Call], log: &mut [Entry]) -> usize
     requires { IsOpen run.old }
     ensures whole { Whole calls.now log.old result run.new }

@@ -7,6 +7,7 @@ use boards::Board;
 use histories::{Answer, Direction, Step};
 
 impl Journey {
+    // What it asks is said of a run and of a board that the run does not hold.
     // Does the step at the place, or undoes the last one done, unless a poll says that the rail is not there yet.
     pub(crate) fn work<B: Board>(&mut self, board: &mut B) -> Answer
         requires { Suited B.Board self.old board.old }
@@ -15,7 +16,6 @@ impl Journey {
         let Some(step) = self.current() else {
             return Answer::Arrived;
         };
-        // One match in place decides: a run is worked by plain data alone.
         match (self.direction, step) {
             (Direction::Forward, Step::Start { rail, target }) => {
                 send(board, rail, target);

@@ -13,7 +13,7 @@ use spans::{BadUnit, lowest_bad};
 use std::array;
 
 // A step with the lowest unit for which its spans are not safe.
-#[derive(Clone, Copy)]
+#[derive(Clone, Copy, Debug, PartialEq, Eq)]
 pub(crate) struct BadStep {
     pub step: usize,
     pub bad: BadUnit,
@@ -31,7 +31,7 @@ impl Proposal<'_> {
     pub(crate) fn unsafe_step(&self) -> Option<BadStep>
         ensures { MatchOption result (SafeScript (model_of self.now.platform.now).rails (model_of self.now.platform.now).units (value_of self.now.first.now.values) self.now.script.now) (λ b. UnsafeStep (model_of self.now.platform.now) (value_of self.now.first.now.values) self.now.script.now b.step b.bad.unit b.bad.values) }
     {
-        // The steps are counted, and none is read here: a chain would be no plainer.
+        // Tried `find_map`: the proof did not close, since it has no lemma yet.
         for step in 0..self.script.len() {
             if let Some(bad) = lowest_bad(self.platform, &self.spans(step + 1)) {
                 return Some(BadStep { step, bad });

@@ -12,6 +12,7 @@ pub trait Cost: Copy + From<Mode> {
     // What each `impl` must prove.
     ghost laws: { Laws toll };
 
+    // Not Default and Add: adding asks for room, and both are the toll's own.
     fn nothing() -> Self
         ensures { result ≡ toll.nothing };
 
@@ -19,6 +20,7 @@ pub trait Cost: Copy + From<Mode> {
         requires { Room toll self other }
         ensures { result ≡ toll.plus self other };
 
+    // The derived order of each cost; a body here would need one more law that ties the order to the toll.
     fn at_most(self, other: Self) -> bool
         ensures { Decides result (toll.AtMost self other) };
 

@@ -18,7 +18,7 @@ pub(crate) struct Draft<C> {
 }
 
 impl<C: Cost> Draft<C> {
-    // The draft with the unit at `at` in the mode.
+    // The draft with the unit at `at` in the mode, which is told by its number, as choices name it.
     pub(crate) fn extended(self, unit: &Unit, at: usize, mode: usize) -> Draft<C>
         requires at { at < 24 }
         requires mode { mode < length (device unit.now).modes }

@@ -12,10 +12,9 @@ use platform::{Platform, Unit};
 fn mode_cost<C: Cost>(unit: &Unit, mode: usize) -> C
     ensures { result ≡ C.toll.of (mode_at (device unit.now) mode) }
 {
-    match unit.modes.get(mode) {
-        Some(chosen) => C::from(*chosen),
-        None => C::nothing(),
-    }
+    unit.modes
+        .get(mode)
+        .map_or(C::nothing(), |chosen| C::from(*chosen))
 }
 
 // The cost of one mode for each unit.

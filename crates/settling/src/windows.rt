@@ -31,16 +31,12 @@ pub(crate) fn demanded(demands: &[Demand]) -> [Bounds; 24]
     let mut windows = [ALL; 24];
     for demand in demands {
         let rail = demand.rail as usize;
-        let wanted = Bounds {
-            low: demand.low,
-            high: demand.high,
-        };
-        windows[rail] = common(windows[rail], wanted);
+        windows[rail] = common(windows[rail], Bounds::from(*demand));
     }
     windows
 }
 
-// What is left of the windows once the unit is in the mode.
+// What is left of the windows once the unit is in the mode, which is told by its number, as choices name it.
 pub(crate) fn narrowed(windows: [Bounds; 24], unit: &Unit, mode: usize) -> [Bounds; 24]
     requires { mode < length (device unit.now).modes }
     ensures { Hold (Still (device unit.now) mode windows) result }

@@ -41,6 +41,7 @@ fn read_line<'a, L: Layout>(
     if fields.len() != layout.width() {
         return Err(SheetFault::Shape { sheet, line });
     }
+    // As the other checks of a line: what it refuses stands where it is looked at.
     let Some(row) = layout.row(fields.as_slice()) else {
         return Err(SheetFault::Field { sheet, line });
     };

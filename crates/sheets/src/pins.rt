@@ -63,7 +63,7 @@ impl Layout for PinSheet {
     }
 }
 
-// The pins that a sheet holds, or the one fault that it has. Each of the four sheets has such a reader, whose promise names its layout.
+// The pins that a sheet holds, or the one fault that it has.
 pub fn read_pins(heap: Global, bytes: &[u8]) -> Result<Vec<PinRow>, SheetFault>
     ensures { Exactly vec_items sheet_refusal (Outcome pin_sheet bytes.now) result }
 {

@@ -35,7 +35,7 @@ pub struct ModeRow {
     pub heat: u8,
 }
 
-// A line of sheet 2, in millivolts.
+// A line of sheet 2, in millivolts: a row has the fields of its line, low and high among them.
 #[derive(Clone, Copy, Debug, PartialEq, Eq)]
 pub struct BoundRow {
     pub unit: u8,

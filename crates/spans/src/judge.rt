@@ -29,6 +29,7 @@ fn all_open(platform: &Platform, spans: &[Bounds; 24]) -> bool
         .all(|span| span.is_open())
 }
 
+// Platform and spans come apart from every caller: a struct of both would only be taken apart again.
 // None if the spans are safe for the unit, or else its first bad values: least on pin 0, then on pin 1, and so on, and 0 past its last pin.
 pub fn first_bad(
     platform: &Platform,

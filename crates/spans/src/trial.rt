@@ -11,7 +11,7 @@ pub(crate) struct Trial<'a> {
     pub(crate) spans: &'a [Bounds; 24],
     // How many pins have a value.
     pub(crate) pin: usize,
-    // Their values, and 0 past them.
+    // Their values, and 0 past them: a unit has at most four pins.
     pub(crate) values: [u16; 4],
     // Whether each mode holds them: a unit has at most six modes.
     pub(crate) alive: [bool; 6],
@@ -28,6 +28,7 @@ impl Trial<'_> {
         ensures { Keeps (length (device self.now.unit.now).modes) (device self.now.unit.now) self.now.pin value self.now.alive result }
     {
         let mut kept = [false; 6];
+        // Tried: a proof learns nothing of what is written through `iter_mut` in a `zip`.
         for (number, mode) in self.unit.modes.iter().enumerate() {
             kept[number] = self.alive[number] && mode.bounds[self.pin].holds(value);
         }

@@ -4,6 +4,7 @@
 #[cfg(test)]
 mod tests {
     use platform::{Bounds, Inquiry, read_inquiry};
+    use sheets::FourSheets;
     use spans::{BadUnit, NoUnit, first_bad, lowest_bad, lowest_bad_on};
     use std::alloc::Global;
     use std::test::Fail;
@@ -11,10 +12,12 @@ mod tests {
     fn small_board(heap: Global) -> Option<Inquiry> {
         read_inquiry(
             heap,
-            b"unit,pin,rail,way\n0,0,0,D\n1,0,0,L\n1,1,1,D\n2,0,1,L\n",
-            b"unit,mode,kind,draw,heat\n0,0,R,200,0\n0,1,R,3000,2\n0,2,P,0,0\n1,0,R,10,0\n1,1,R,400,1\n1,2,P,0,0\n2,0,R,0,0\n2,1,R,2500,3\n2,2,P,0,0\n",
-            b"unit,mode,pin,low,high\n0,0,0,0,0\n0,1,0,11400,12600\n0,2,0,0,12600\n1,0,0,0,14000\n1,0,1,0,0\n1,1,0,5500,14000\n1,1,1,500,5250\n1,2,0,5500,14000\n1,2,1,0,5250\n2,0,0,0,0\n2,1,0,1650,1950\n2,2,0,0,1950\n",
-            b"rail,low,high\n",
+            FourSheets {
+                pins: b"unit,pin,rail,way\n0,0,0,D\n1,0,0,L\n1,1,1,D\n2,0,1,L\n",
+                modes: b"unit,mode,kind,draw,heat\n0,0,R,200,0\n0,1,R,3000,2\n0,2,P,0,0\n1,0,R,10,0\n1,1,R,400,1\n1,2,P,0,0\n2,0,R,0,0\n2,1,R,2500,3\n2,2,P,0,0\n",
+                bounds: b"unit,mode,pin,low,high\n0,0,0,0,0\n0,1,0,11400,12600\n0,2,0,0,12600\n1,0,0,0,14000\n1,0,1,0,0\n1,1,0,5500,14000\n1,1,1,500,5250\n1,2,0,5500,14000\n1,2,1,0,5250\n2,0,0,0,0\n2,1,0,1650,1950\n2,2,0,0,1950\n",
+                demands: b"rail,low,high\n",
+            },
         )
         .ok()
     }

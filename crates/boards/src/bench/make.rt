@@ -31,6 +31,7 @@ impl<R: Rail> Bench<R> {
         ensures { let in_range = Makable R.unset R.suits R.CEILING self.old.count settings.now first.now.values in MatchResult result (λ _. in_range × Made R.unset R.blank R.rests self.old.count settings.now first.now.values self.new) (Refused in_range) }
     {
         let used = &settings[..self.count as usize];
+        // Tried: a proof learns nothing of what is written through `iter_mut` in a `zip`.
         for (i, (setting, mv)) in used.iter().zip(&first.values).enumerate() {
             self.rails[i] = R::rest(*setting, *mv)?;
         }

@@ -7,9 +7,9 @@ use Rattle.listings.proofs.Lines.{lines_more}
 use Rattle.listings.proofs.write.rail_lines.Goals as goal
 
 pub loop-rail-preserved : goal.loop-rail-preserved
-loop-rail-preserved g c = lines_more (rail_line c.args.choice.now.windows c.args.choice.now.targets.values) (string_bytes c.args.out.now) c.loop-rail.rail-counter c.loop-rail.invariant (c.in_ok-writeln.ensures.bytes ∙ simp (append_assoc, get_or-take c.args.rails c.args.choice.now.windows c.loop-rail.rail-counter no_bounds (omega arith)))
+loop-rail-preserved g c = lines_more (rail_line c.args.choice.now.windows c.args.choice.now.targets.values) (string_bytes c.args.out.now) c.loop-rail.rail-counter c.loop-rail.invariant (c.in_ok-writeln.ensures.bytes ∙ simp (append_assoc, get_or-take c.rails-rails.result c.args.choice.now.windows c.loop-rail.rail-counter no_bounds (omega arith)))
 
 pub returns : goal.returns
 returns g c =
-    let e : c.loop-rail.rail-counter ≡ c.args.rails = omega arith in
-    c.loop-rail.invariant ∙ ap (λ n. string_bytes c.args.out.now ++ flat_map (rail_line c.args.choice.now.windows c.args.choice.now.targets.values) (range_with_len 0 n)) e
+    let e : c.loop-rail.rail-counter ≡ c.rails-rails.result = omega arith in
+    c.loop-rail.invariant ∙ ap (λ n. string_bytes c.args.out.now ++ flat_map (rail_line c.args.choice.now.windows c.args.choice.now.targets.values) (range_with_len 0 n)) (e ∙ c.rails-rails.ensures)

@@ -1,14 +1,10 @@
-use Rattle.std.proofs.Common.{◌++◌, length, vec_items, string_bytes, sym, ap, ◌∙◌, arith}
-use Rattle.platform.proofs.Checking.{as_many}
+use Rattle.std.proofs.Common.{◌++◌, length, string_bytes, ap, ◌∙◌}
 use Rattle.settling.specs.Choices.{units_of}
 use Rattle.settling.specs.Tolls.{cost}
 use Rattle.settling.specs.Sums.{heat_toll}
 use Rattle.listings.specs.Texts.{units_text, rails_text, total_text}
 use Rattle.listings.proofs.Lines.{both}
 use Rattle.listings.proofs.write.write_choice.Goals as goal
-
-pub write_units-requires : goal.write_units-requires
-write_units-requires g c = omega (arith, c.units.ensures.sound.units_counted.1, as_many c.units.result.now)
 
 pub returns : goal.returns
 returns g c =
@@ -18,6 +14,4 @@ returns g c =
     let rails = rails_text s.windows s.targets.values p.rails in
     both (string_bytes c.args.out.now) (total_text (cost heat_toll (units_of p) s.modes)) (units ++ rails)
     (c.in_ok-write_total.ensures ∙ ap (λ t. string_bytes c.args.out.now ++ total_text t) c.cost_of.ensures)
-    (both (string_bytes c.write_total.new.out) units rails
-    (c.in_ok-write_units.ensures ∙ ap (λ n. string_bytes c.write_total.new.out ++ units_text s.modes n) (ap length c.units.ensures.value ∙ sym (as_many (vec_items p.units))))
-    (c.in_ok-write_rails.ensures ∙ ap (λ n. string_bytes c.write_units.new.out ++ rails_text s.windows s.targets.values n) c.rails.ensures))
+    (both (string_bytes c.write_total.new.out) units rails c.in_ok-write_units.ensures c.in_ok-write_rails.ensures)
