@@ -1,0 +1,4 @@
+pub mod Sets
+pub mod Answers
+pub mod Steps
+pub mod Filling
