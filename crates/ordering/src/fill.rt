@@ -45,7 +45,6 @@ impl Search<'_> {
 
     // Tries every rail from a set that can be moved.
     fn go_on(&self, table: &mut [u8], set: usize)
-        requires table { 2 ^ count (mixes self.now.change) ≤ length table.old }
         requires set { set < 2 ^ count (mixes self.now.change) }
         requires one { slice_index table.old set ≡ 1 }
         requires filled { Filled (units_of self.now.change) (mixes self.now.change) table.old set 0 }
@@ -60,8 +59,7 @@ impl Search<'_> {
 
     // Goes through the sets in rising order: those of a set with one rail more come after it.
     fn sweep(&self, table: &mut [u8])
-        requires table { 2 ^ count (mixes self.now.change) ≤ length table.old }
-        requires filled { Filled (units_of self.now.change) (mixes self.now.change) table.old 0 0 }
+        requires { Filled (units_of self.now.change) (mixes self.now.change) table.old 0 0 }
         ensures filled { Filled (units_of self.now.change) (mixes self.now.change) table.new (2 ^ count (mixes self.now.change)) 0 }
         ensures later { Later (mixes self.now.change) table.old table.new }
     {

@@ -17,14 +17,14 @@ returns-then-table-size-ne1 c =
       record { first_rests = c.in_default.ensures; last_rests = c.in_default-lowest_unrested.ensures; few = omega (arith, c.place-changed.ensures, c.if-changed-gt-MOST.false, ap (place (mixes s)) c.rails.ensures); long = omega (arith, c.if-table-size.false, c.size.ensures) },
       (
         finished_from_filled (units_of s) x calm c.args.table.now t c.fill.ensures.filled c.fill.ensures.later,
-        none_from_full (units_of s) x calm (λ w. c.if-table-size-ne1.true (ap (λ (n : ℕ). get_or t (n - 1) 0) c.size-2.ensures ∙ (exact_from_filled (units_of s) x t (omega (arith, c.if-table-size.false, c.size.ensures, c.fill.auto.table)) c.fill.ensures.filled).whole (2 ^ count x - 1) w)),
+        none_from_full (units_of s) x calm (λ w. c.if-table-size-ne1.true (ap (λ (n : ℕ). get_or t (n - 1) 0) c.size-2.ensures ∙ (exact_from_filled (units_of s) x t c.fill.ensures.filled).whole (2 ^ count x - 1) w)),
       ),
     )
 
 pub read_back-requires-clause-exact : goal.read_back-requires-clause-exact
 read_back-requires-clause-exact c =
     let s = c.args.self.now in
-    exact_from_filled (units_of s) (mixes s) c.fill.new.table (omega (arith, c.if-table-size.false, c.size.ensures, c.fill.auto.table)) c.fill.ensures.filled
+    exact_from_filled (units_of s) (mixes s) c.fill.new.table c.fill.ensures.filled
 
 pub returns : goal.returns
 returns c =
