@@ -1,5 +1,5 @@
 -- What a trial of one rail tells. Assumes nothing.
-use Rattle.std.proofs.Common.{◌≡◌, ℕ, ◌+◌, ◌^◌, ◌≤◌, Bool, true, false, cond, eqb, List, length, set, Some, None, Option, sym, refl, ap, ◌∙◌, subst, ⊎_elim, arith, get_or-set_other, get_or-set_same, is_some, not, Decides, MatchOption}
+use Rattle.std.proofs.Common.{◌≡◌, ℕ, ◌+◌, ◌^◌, ◌≤◌, Bool, true, false, cond, eqb, List, length, set, Some, None, Option, sym, refl, ap, ◌∙◌, subst, ⊎_elim, arith, get_or-set_other, get_or-set_same, is_some, not, Decides, MatchOption, rules}
 use Rattle.std.proofs.lemmas.Bool.{eq-eqb, ne_eqb, cases_eq, cond-true, cond-false, false≢true}
 use Rattle.platform.specs.declared.parts.Bounds.{Bounds}
 use Rattle.platform.specs.Units.{bounds_at, no_bounds, value_of, Within, Resting}
@@ -24,18 +24,7 @@ use Rattle.ordering.proofs.Ranks.{mix_out, mix_more}
 
 -- a platform keeps every rule
 pub sound_of : (p : Platform) → Sound (model_of p).rails (model_of p).units
-sound_of p = record {
-  rails_counted = p.rails_counted;
-  units_counted = p.units_counted;
-  pins_counted = p.pins_counted;
-  modes_counted = p.modes_counted;
-  wired = p.wired;
-  apart = p.apart;
-  mild = p.mild;
-  cool = p.cool;
-  level = p.level;
-  driven = p.driven;
-}
+sound_of p = search rules
 
 -- where the rails stand at a mix that rests they are safe
 pub rest_safe : (m : Model) → Sound m.rails m.units → (mix : List ℕ) → Resting m.units mix → Safe m.rails m.units (λ i. Still (value_of mix i))
