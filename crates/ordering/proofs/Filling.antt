@@ -1,5 +1,5 @@
 -- What each trial adds to the table. Assumes nothing.
-use Rattle.std.proofs.Common.{◌≡◌, ℕ, ◌+◌, ◌^◌, ◌<◌, ◌≤◌, ◌≢◌, List, length, get_or, set, sym, ◌∙◌, inl, inr, ⊎_elim, arith, get_or-set_other, get_or-set_same, pow_pos}
+use Rattle.std.proofs.Common.{◌≡◌, ℕ, ◌+◌, ◌^◌, ◌<◌, ◌≤◌, ◌≢◌, List, length, length-set, get_or, set, sym, ◌∙◌, inl, inr, ⊎_elim, arith, get_or-set_other, get_or-set_same, pow_pos}
 use Rattle.std.proofs.lemmas.Bool.{cases_eq, cases_lt}
 use Rattle.platform.specs.Units.{Device}
 use Rattle.histories.specs.declared.rail.Rail.TheVariants.{Still}
@@ -16,9 +16,10 @@ module _ (units : List Device) (x : Mixes) where
   next_below s r lt next = bit_below (count x) s (place x r) (place_below x r next.changes) lt next.out
 
   -- a rail was tried from set s
-  module _ (t : List ℕ) (s r : ℕ) (f : Filled units x t s r) (lt : s < 2 ^ count x) (long : 2 ^ count x ≤ length t) (one : get_or t s 0 ≡ 1) where
+  module _ (t : List ℕ) (s r : ℕ) (f : Filled units x t s r) (lt : s < 2 ^ count x) (one : get_or t s 0 ≡ 1) where
     fill_same : (Next units x s r → get_or t (s + 2 ^ place x r) 0 ≡ 1) → Filled units x t s (r + 1)
     fill_same h = record {
+      long = f.long;
       bytes = f.bytes;
       start = f.start;
       sound = f.sound;
@@ -33,6 +34,7 @@ module _ (units : List Device) (x : Mixes) where
 
     fill_put : Next units x s r → Filled units x (set t (s + 2 ^ place x r) 1) s (r + 1)
     fill_put next =
+        let long : 2 ^ count x ≤ length t = f.long in
         let w : ℕ = s + 2 ^ place x r in
         let below : w < 2 ^ count x = next_below s r lt next in
         let up : s < w = omega (arith, pow_pos (place x r)) in
@@ -40,6 +42,7 @@ module _ (units : List Device) (x : Mixes) where
         let other : (i : ℕ) → i ≢ w → get_or (set t w 1) i 0 ≡ get_or t i 0 = λ i ne. get_or-set_other t w i 1 0 ne in
         let kept : (i : ℕ) → get_or t i 0 ≡ 1 → get_or (set t w 1) i 0 ≡ 1 = λ i h. ⊎_elim (λ (e : i ≡ w). rw e same) (λ ne. other i ne ∙ h) (cases_eq i w) in
         record {
+          long = omega (arith, length-set t w 1);
           bytes = λ i l. ⊎_elim (λ (e : i ≡ w). inr (rw e same)) (λ ne. rw (other i ne) (f.bytes i l)) (cases_eq i w);
           start = kept 0 f.start;
           sound = λ i l h. ⊎_elim (λ (e : i ≡ w). rw e (more (f.sound s lt one) next)) (λ ne. f.sound i l (sym (other i ne) ∙ h)) (cases_eq i w);
@@ -61,6 +64,7 @@ module _ (units : List Device) (x : Mixes) where
 
   pub fill_next : (t : List ℕ) (s : ℕ) → Filled units x t s x.rails → Filled units x t (s + 1) 0
   fill_next t s f = record {
+    long = f.long;
     bytes = f.bytes;
     start = f.start;
     sound = f.sound;
@@ -72,6 +76,7 @@ module _ (units : List Device) (x : Mixes) where
 
   pub fill_skip : (t : List ℕ) (s : ℕ) → (get_or t s 0 ≡ 1 → ⊥) → Filled units x t s 0 → Filled units x t (s + 1) 0
   fill_skip t s none f = record {
+    long = f.long;
     bytes = f.bytes;
     start = f.start;
     sound = f.sound;
@@ -87,6 +92,7 @@ module _ (units : List Device) (x : Mixes) where
       let same : get_or (set t 0 1) 0 0 ≡ 1 = get_or-set_same t 0 1 0 (omega arith) in
       let other : (i : ℕ) → i ≢ 0 → get_or (set t 0 1) i 0 ≡ get_or t i 0 = λ i ne. get_or-set_other t 0 i 1 0 ne in
       record {
+        long = omega (arith, length-set t 0 1);
         bytes = λ i l. ⊎_elim (λ (q : i ≡ 0). inr (rw q same)) (λ ne. inl (other i ne ∙ none i l)) (cases_eq i 0);
         start = same;
         sound = λ i l h. ⊎_elim (λ (q : i ≡ 0). rw q (nothing calm)) (λ ne. absurd (omega (arith, sym (other i ne) ∙ h, none i l))) (cases_eq i 0);
@@ -97,8 +103,8 @@ module _ (units : List Device) (x : Mixes) where
   whole t f (nothing calm) = f.start
   whole t f (more {s} {r} w next) = f.pushed s r (inl (movable_below units x w)) (whole t f w) next
 
-  pub exact_from_filled : (t : List ℕ) → 2 ^ count x ≤ length t → Filled units x t (2 ^ count x) 0 → Exact units x t
-  exact_from_filled t long f = record { long = long; sound = f.sound; whole = λ i w. whole t f w }
+  pub exact_from_filled : (t : List ℕ) → Filled units x t (2 ^ count x) 0 → Exact units x t
+  exact_from_filled t f = record { long = f.long; sound = f.sound; whole = λ i w. whole t f w }
 
   pub finished_from_filled : Safe x.rails units (λ i. Still (x.first i)) → (old t : List ℕ) → Filled units x t (2 ^ count x) 0 → Later x old t → Finished units x old t
   finished_from_filled calm old t f later = record {

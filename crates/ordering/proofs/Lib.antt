@@ -6,3 +6,4 @@ pub mod Filling
 pub mod Reading
 pub mod Trying
 pub mod Places
+pub mod Counts

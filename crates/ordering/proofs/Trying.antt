@@ -1,5 +1,5 @@
 -- What a trial of one rail tells. Assumes nothing.
-use Rattle.std.proofs.Common.{◌≡◌, ℕ, ◌+◌, ◌^◌, ◌≤◌, Bool, true, false, cond, eqb, List, length, set, Some, None, Option, sym, refl, ap, ◌∙◌, subst, ⊎_elim, arith, get_or-set_other, get_or-set_same, is_some, not, Decides, MatchOption}
+use Rattle.std.proofs.Common.{◌≡◌, ℕ, ◌+◌, ◌^◌, ◌≤◌, Bool, true, false, cond, eqb, List, length, set, Some, None, Option, sym, refl, ap, ◌∙◌, subst, ⊎_elim, arith, get_or-set_other, get_or-set_same, is_some, not, Decides, MatchOption, rules}
 use Rattle.std.proofs.lemmas.Bool.{eq-eqb, ne_eqb, cases_eq, cond-true, cond-false, false≢true}
 use Rattle.platform.specs.declared.parts.Bounds.{Bounds}
 use Rattle.platform.specs.Units.{bounds_at, no_bounds, value_of, Within, Resting}
@@ -17,25 +17,14 @@ use Rattle.histories.proofs.Spans.{mix_value, modes_same, safety_exact}
 use Rattle.histories.proofs.Orders.{safe_as, still_safe}
 use Rattle.ordering.specs.Sets.{bit, Mixes, place, Changes}
 use Rattle.ordering.specs.Steps.{moved_mix, leaving, Next, Movable, nothing, more}
-use Rattle.ordering.specs.Filling.{between, standing}
+use Rattle.ordering.specs.Filling.{standing}
 use Rattle.ordering.specs.Answers.{mixes_of}
 use Rattle.ordering.proofs.Bits.{bit_none}
 use Rattle.ordering.proofs.Ranks.{mix_out, mix_more}
 
 -- a platform keeps every rule
 pub sound_of : (p : Platform) → Sound (model_of p).rails (model_of p).units
-sound_of p = record {
-  rails_counted = p.rails_counted;
-  units_counted = p.units_counted;
-  pins_counted = p.pins_counted;
-  modes_counted = p.modes_counted;
-  wired = p.wired;
-  apart = p.apart;
-  mild = p.mild;
-  cool = p.cool;
-  level = p.level;
-  driven = p.driven;
-}
+sound_of p = search rules
 
 -- where the rails stand at a mix that rests they are safe
 pub rest_safe : (m : Model) → Sound m.rails m.units → (mix : List ℕ) → Resting m.units mix → Safe m.rails m.units (λ i. Still (value_of mix i))
@@ -61,25 +50,25 @@ module _ (m : Model) (sound : Sound m.rails m.units) (first last : List ℕ) whe
     x = mixes_of m first last
 
     abbrev pub tried : List Bounds
-    tried = set spans r (between (value_of first r) (value_of last r))
+    tried = set spans r (span_of (Moving (value_of first r) (value_of last r)))
 
     -- with the rail's span put in, the spans are those of the rails with this one on its way
     tried_shown : SpansOf m.rails (leaving (moved_mix x s) r (x.last r)) tried
     tried_shown i l =
         ⊎_elim
-        (λ (q : i ≡ r). subst (λ (j : ℕ). bounds_at (set spans r (between (value_of first r) (value_of last r))) j ≡ span_of (leaving (moved_mix (mixes_of m first last) s) r (value_of last r) j)) (sym q)
-        (get_or-set_same spans r (between (value_of first r) (value_of last r)) no_bounds (omega (arith, long, changes.0))
-        ∙ ap (λ (v : ℕ). between v (value_of last r)) (sym (mix_out (mixes_of m first last) s r out))
+        (λ (q : i ≡ r). subst (λ (j : ℕ). bounds_at (set spans r (span_of (Moving (value_of first r) (value_of last r)))) j ≡ span_of (leaving (moved_mix (mixes_of m first last) s) r (value_of last r) j)) (sym q)
+        (get_or-set_same spans r (span_of (Moving (value_of first r) (value_of last r))) no_bounds (omega (arith, long, changes.0))
+        ∙ ap (λ (v : ℕ). span_of (Moving v (value_of last r))) (sym (mix_out (mixes_of m first last) s r out))
         ∙ ap span_of (sym (cond-true _ _ _ (eq-eqb r r refl)))))
-        (λ ne. get_or-set_other spans r i (between (value_of first r) (value_of last r)) no_bounds ne ∙ shown i l ∙ ap span_of (sym (cond-false _ _ _ (ne_eqb i r ne))))
+        (λ ne. get_or-set_other spans r i (span_of (Moving (value_of first r) (value_of last r))) no_bounds ne ∙ shown i l ∙ ap span_of (sym (cond-false _ _ _ (ne_eqb i r ne))))
         (cases_eq i r)
 
     -- it is enough to look at the units on the rail
     all_from_on : AllSafeOn m r tried → AllSafe m tried
     all_from_on on =
         let mix : ℕ → ℕ = moved_mix (mixes_of m first last) s in
-        one_rail m sound spans (set spans r (between (value_of first r) (value_of last r))) r
-        (λ q ne. get_or-set_other spans r q (between (value_of first r) (value_of last r)) no_bounds ne)
+        one_rail m sound spans (set spans r (span_of (Moving (value_of first r) (value_of last r)))) r
+        (λ q ne. get_or-set_other spans r q (span_of (Moving (value_of first r) (value_of last r))) no_bounds ne)
         (mix_of m.rails mix)
         (λ q l. subst (λ (b : Bounds). Within b (value_of (mix_of m.rails mix) q)) (sym (shown q l)) (rw (mix_value m.rails mix q l) (omega arith, omega arith)))
         ((safety_exact m.rails m.units (standing (mixes_of m first last) s) spans shown).1 (movable_safe w))

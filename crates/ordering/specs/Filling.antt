@@ -1,6 +1,5 @@
 -- How the table is filled and an order is read back. Assumes nothing.
-use Rattle.std.specs.Prelude.{◌≡◌, ℕ, min, max, ◌+◌, ◌^◌, ◌<◌, ◌≤◌, ◌⊎◌, List, length, slice_index, slice_set}
-use Rattle.platform.specs.declared.parts.Bounds.{Bounds}
+use Rattle.std.specs.Prelude.{◌≡◌, ℕ, ◌+◌, ◌^◌, ◌<◌, ◌≤◌, ◌⊎◌, List, length, slice_index, slice_set}
 use Rattle.platform.specs.Units.{Device}
 use Rattle.histories.specs.declared.rail.Rail.{Rail}
 use Rattle.histories.specs.declared.rail.Rail.TheVariants.{Still}
@@ -22,10 +21,6 @@ units_of c = (model_of c.platform.now).units
 abbrev pub standing : Mixes → ℕ → ℕ → Rail
 standing x s i = Still (moved_mix x s i)
 
--- all values from one to another, whichever is the greater
-abbrev pub between : ℕ → ℕ → Bounds
-between a b = record { low = min a b; high = max a b }
-
 -- the rails' bits
 abbrev pub Placed : Mixes → List ℕ → Type 0
 Placed x places = (r : ℕ) → r < 24 → slice_index places r ≡ place x r
@@ -36,6 +31,7 @@ Tried units x s r old table = (Next units x s r × (table ≡ slice_set old (s +
 
 -- all rails were tried from the sets below s, and from s those below r
 pub record Filled (units : List Device) (x : Mixes) (table : List ℕ) (s r : ℕ) : Type 0 where
+  pub long : 2 ^ count x ≤ length table
   pub bytes : (i : ℕ) → i < 2 ^ count x → (slice_index table i ≡ 0) ⊎ (slice_index table i ≡ 1)
   pub start : slice_index table 0 ≡ 1
   pub sound : (i : ℕ) → i < 2 ^ count x → slice_index table i ≡ 1 → Movable units x i

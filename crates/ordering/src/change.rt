@@ -18,12 +18,7 @@ impl Change<'_> {
         requires { rail ≤ 24 }
         ensures { result ≡ place (mixes self.now) rail }
     {
-        let mut place = 0;
-        for lower in 0..rail {
-            if self.first.values[lower] != self.last.values[lower] {
-                place += 1;
-            }
-        }
-        place
+        let ends = self.first.values.iter().zip(&self.last.values);
+        ends.take(rail).filter(|(from, to)| from != to).count()
     }
 }

@@ -43,9 +43,8 @@ impl Search<'_> {
         }
     }
 
-    // Tries every rail from a set that can be moved.
+    // Tries every rail from a set that can be moved first.
     fn go_on(&self, table: &mut [u8], set: usize)
-        requires table { 2 ^ count (mixes self.now.change) ≤ length table.old }
         requires set { set < 2 ^ count (mixes self.now.change) }
         requires one { slice_index table.old set ≡ 1 }
         requires filled { Filled (units_of self.now.change) (mixes self.now.change) table.old set 0 }
@@ -53,6 +52,7 @@ impl Search<'_> {
         ensures later { Later (mixes self.now.change) table.old table.new }
     {
         let mut spans = self.stand(set);
+        // A trial changes the spans and the table, and of a rail only the number is asked: a chain would be no plainer.
         for rail in 0..self.rails() {
             self.try_rail(&mut spans, table, set, rail);
         }
@@ -60,11 +60,11 @@ impl Search<'_> {
 
     // Goes through the sets in rising order: those of a set with one rail more come after it.
     fn sweep(&self, table: &mut [u8])
-        requires table { 2 ^ count (mixes self.now.change) ≤ length table.old }
-        requires filled { Filled (units_of self.now.change) (mixes self.now.change) table.old 0 0 }
+        requires { Filled (units_of self.now.change) (mixes self.now.change) table.old 0 0 }
         ensures filled { Filled (units_of self.now.change) (mixes self.now.change) table.new (2 ^ count (mixes self.now.change)) 0 }
         ensures later { Later (mixes self.now.change) table.old table.new }
     {
+        // A set marks later ones while the table is gone through, so no iterator can hold it.
         for set in 0..self.size() {
             if table[set] == 1 {
                 self.go_on(table, set);

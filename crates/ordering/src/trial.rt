@@ -1,11 +1,13 @@
 // A trial: a moving rail's span beside the values at which the others stand.
 ghost use Rattle.std.specs.Prelude.{◌≡◌, ◌<◌, slice_set, Decides};
-ghost use Rattle.histories.specs.Spans.{SpansOf};
+ghost use Rattle.histories.specs.declared.rail.Rail.TheVariants.{Moving};
+ghost use Rattle.histories.specs.Spans.{span_of, SpansOf};
 ghost use Rattle.ordering.specs.Sets.{bit, place, Changes};
 ghost use Rattle.ordering.specs.Steps.{Next, Movable};
-ghost use Rattle.ordering.specs.Filling.{mixes, units_of, standing, between};
+ghost use Rattle.ordering.specs.Filling.{mixes, units_of, standing};
 
 use crate::search::Search;
+use histories::Rail;
 use platform::Bounds;
 use spans::lowest_bad_on;
 
@@ -34,16 +36,13 @@ impl Search<'_> {
     // All values of a rail from one mix to the other.
     fn way(&self, rail: usize) -> Bounds
         requires { rail < (mixes self.now.change).rails }
-        ensures { result ≡ between ((mixes self.now.change).first rail) ((mixes self.now.change).last rail) }
+        ensures { result ≡ span_of (Moving ((mixes self.now.change).first rail) ((mixes self.now.change).last rail)) }
     {
-        let (from, to) = (
-            self.change.first.values[rail],
-            self.change.last.values[rail],
-        );
-        Bounds {
-            low: from.min(to),
-            high: from.max(to),
+        Rail::Moving {
+            origin: self.change.first.values[rail],
+            target: self.change.last.values[rail],
         }
+        .span()
     }
 
     // Can the rail be moved next after those of a set, where the spans show that they have moved? The spans are as they were afterwards.

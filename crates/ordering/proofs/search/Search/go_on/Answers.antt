@@ -16,7 +16,7 @@ loop-rail-preserved c =
     let tried = c.try_rail.ensures.tried in (
       subst (λ (spans : List Bounds). SpansOf 24 (standing x set) spans) (sym c.try_rail.ensures.same) c.loop-rail.invariant.0,
       tried_one units x set rail table new tried c.loop-rail.invariant.1,
-      fill_step units x table set rail c.loop-rail.invariant.2 c.requires.set (omega (arith, c.requires.table, c.loop-rail.auto.table)) c.loop-rail.invariant.1 new tried,
+      fill_step units x table set rail c.loop-rail.invariant.2 c.requires.set c.loop-rail.invariant.1 new tried,
       λ i l. tried_later units x set rail table new c.requires.set tried i l ∙ c.loop-rail.invariant.3 i l,
     )
 
