@@ -1,0 +1,4 @@
+pub mod Few
+pub mod Units
+pub mod Orders
+pub mod Scripts
