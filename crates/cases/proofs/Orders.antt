@@ -1,5 +1,5 @@
 -- Orders on the small board, and which sets of its rails can be moved first. Assumes nothing.
-use Rattle.std.proofs.Common.{◌≡◌, ℕ, suc, ◌∙◌, List, [], ◌∷◌, get_or, sym, refl, subst, inl, inr, ⊎_elim, arith, lit<, lit≤}
+use Rattle.std.proofs.Common.{◌≡◌, ℕ, suc, ◌∙◌, List, [], ◌∷◌, get_or, Err, sym, refl, subst, inl, inr, ⊎_elim, arith, lit<, lit≤}
 use Rattle.std.proofs.lemmas.List.{get_or_past}
 use Rattle.platform.specs.Units.{value_of}
 use Rattle.boards.specs.Meaning.{Between}
@@ -7,10 +7,14 @@ use Rattle.histories.specs.Rails.{after}
 use Rattle.histories.specs.Spans.{Safe}
 use Rattle.openings.specs.Openings.{SafeScript}
 use Rattle.openings.specs.Orders.{Among, singly}
+use Rattle.openings.specs.declared.end.End.TheVariants.{First, Last}
+use Rattle.ordering.specs.declared.fault.OrderFault.TheVariants.{Restless, ShortTable}
+use Rattle.ordering.specs.Answers.{Ordered}
 use Rattle.ordering.specs.Sets.{Changes, InSet, Lists, CanMove, Tells, Finished, SafeOrder}
 use Rattle.cases.specs.Board.{small_board}
-use Rattle.cases.specs.Moves.{off, on, switching_on, staying_off}
+use Rattle.cases.specs.Moves.{off, on, supply_between, load_between, switching_on, staying_off}
 use Rattle.cases.proofs.Few.{one, two, four}
+use Rattle.cases.proofs.Rests.{rests_off, rests_on, supply_unrested, load_unrested}
 use Rattle.cases.proofs.Units.{safe_where, regulator_out}
 
 -- both rails change
@@ -21,7 +25,7 @@ changes_1 : Changes switching_on 1
 changes_1 = (lit< tt, λ e. let z : 0 ≡ 1650 = e in omega (arith, z))
 
 -- rail 0 on its way, and come there
-rail_0_moves : (rest : List ℕ) → Safe 2 small_board.units (after (value_of off) (singly (value_of on) (0 ∷ rest)) 1)
+pub rail_0_moves : (rest : List ℕ) → Safe 2 small_board.units (after (value_of off) (singly (value_of on) (0 ∷ rest)) 1)
 rail_0_moves rest = safe_where _ (λ mix h.
     let a : Between 0 11400 (value_of mix 0) = h 0 (lit< tt) in
     let b : value_of mix 1 ≡ 0 = h 1 (lit< tt) in
@@ -49,7 +53,7 @@ rail_1_there = safe_where _ (λ mix h.
 safe_0 : SafeScript 2 small_board.units (value_of off) (singly (value_of on) (0 ∷ []))
 safe_0 = two (λ k. Safe 2 small_board.units (after (value_of off) (singly (value_of on) (0 ∷ [])) (suc k))) (rail_0_moves []) (rail_0_there [])
 
-safe_0_1 : SafeScript 2 small_board.units (value_of off) (singly (value_of on) (0 ∷ 1 ∷ []))
+pub safe_0_1 : SafeScript 2 small_board.units (value_of off) (singly (value_of on) (0 ∷ 1 ∷ []))
 safe_0_1 = four (λ k. Safe 2 small_board.units (after (value_of off) (singly (value_of on) (0 ∷ 1 ∷ [])) (suc k))) (rail_0_moves (1 ∷ [])) (rail_0_there (1 ∷ [])) rail_1_moves rail_1_there
 
 none_distinct : Among 0 (1 ∷ []) → ⊥
@@ -147,3 +151,12 @@ still_table = record {
   told = λ s lt. one (λ s. Tells (get_or (1 ∷ []) s 0) (CanMove small_board.units staying_off s)) (inl (refl, still_0)) s lt;
   later = λ s le. get_or_past (1 ∷ []) s 0 le ∙ sym (get_or_past (0 ∷ []) s 0 le);
 }
+
+pub no_first : Ordered small_board supply_between on (7 ∷ []) (7 ∷ []) (Err (Restless First 0))
+no_first = (supply_unrested, refl)
+
+pub no_last : Ordered small_board off load_between (7 ∷ []) (7 ∷ []) (Err (Restless Last 2))
+no_last = (rests_off, (load_unrested, refl))
+
+pub short : Ordered small_board off on (7 ∷ 7 ∷ 7 ∷ []) (7 ∷ 7 ∷ 7 ∷ []) (Err ShortTable)
+short = (rests_off, (rests_on, (lit≤ tt, (lit< tt, refl))))

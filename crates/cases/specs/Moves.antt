@@ -1,5 +1,6 @@
 -- Ways of the small board from off to on. Assumes nothing.
-use Rattle.std.specs.Prelude.{ℕ, List, [], ◌∷◌}
+use Rattle.std.specs.Prelude.{ℕ, List, [], ◌∷◌, ◌++◌, replicate}
+use Rattle.platform.specs.declared.parts.Mix.{Mix}
 use Rattle.histories.specs.declared.step.Step.{Step}
 use Rattle.histories.specs.declared.step.Step.TheVariants.{Start, Wait}
 use Rattle.ordering.specs.Sets.{Mixes}
@@ -22,6 +23,17 @@ switching_on = mixes_of small_board off on
 abbrev pub staying_off : Mixes
 staying_off = mixes_of small_board off off
 
+-- mixes that do not rest: of the supply, and of the load
+abbrev pub supply_between : List ℕ
+supply_between = 5 ∷ 0 ∷ []
+
+abbrev pub load_between : List ℕ
+load_between = 11400 ∷ 700 ∷ []
+
+-- rail 0 comes first, and then rail 1
+abbrev pub rail_0_first : List Step
+rail_0_first = Start 0 11400 ∷ Wait 0 ∷ Start 1 1650 ∷ Wait 1 ∷ []
+
 -- rail 1 comes first, and then rail 0
 abbrev pub rail_1_first : List Step
 rail_1_first = Start 1 1650 ∷ Wait 1 ∷ Start 0 11400 ∷ Wait 0 ∷ []
@@ -29,6 +41,14 @@ rail_1_first = Start 1 1650 ∷ Wait 1 ∷ Start 0 11400 ∷ Wait 0 ∷ []
 -- rail 0 starts first, but nothing waits for it before rail 1 starts
 abbrev pub both_at_once : List Step
 both_at_once = Start 0 11400 ∷ Start 1 1650 ∷ Wait 0 ∷ Wait 1 ∷ []
+
+-- a wait for a rail that stands
+abbrev pub idle_wait : List Step
+idle_wait = Wait 0 ∷ []
+
+-- both rails on, as a mix
+abbrev pub mix_on : Mix
+mix_on = record { values = on ++ replicate 22 0 }
 
 -- the regulator's pins where its output leaves 0 and its input has not, and 0 past them
 abbrev pub rail_1_ahead : List ℕ

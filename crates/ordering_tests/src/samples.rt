@@ -18,6 +18,19 @@ pub(crate) fn small_board(heap: Global) -> Result<Inquiry, PlatformFault> {
     )
 }
 
+// A supply on each of two rails, and a load that takes both only at once: both at 0 mV, or both at 100 mV.
+pub(crate) fn tied_board(heap: Global) -> Result<Inquiry, PlatformFault> {
+    read_inquiry(
+        heap,
+        FourSheets {
+            pins: b"unit,pin,rail,way\n0,0,0,D\n1,0,1,D\n2,0,0,L\n2,1,1,L\n",
+            modes: b"unit,mode,kind,draw,heat\n0,0,R,0,0\n1,0,R,0,0\n2,0,R,0,0\n2,1,R,0,0\n",
+            bounds: b"unit,mode,pin,low,high\n0,0,0,0,100\n1,0,0,0,100\n2,0,0,0,0\n2,0,1,0,0\n2,1,0,100,100\n2,1,1,100,100\n",
+            demands: b"rail,low,high\n",
+        },
+    )
+}
+
 // One unit for each of so many rails, which drives it and rests at any value.
 pub(crate) fn wide_board(heap: Global, rails: u8) -> Result<Inquiry, PlatformFault> {
     let mut pins = String::new(heap);

@@ -1,5 +1,5 @@
-// Orders on the small board.
-use crate::samples::{mix, ordered, small_board};
+// Orders on boards of two rails.
+use crate::samples::{mix, ordered, small_board, tied_board};
 use openings::End;
 use ordering::OrderFault;
 use std::test::Fail;
@@ -55,5 +55,17 @@ fn short_table(rt: HostRuntime) -> Result<(), Fail> {
     assert!(rt; ordered(&board, mix(0, 0), mix(11400, 1650), &mut table) == Err(short));
     assert_eq!(rt; short.number(), 14);
     assert_eq!(rt; table, [7; 3]);
+    Ok(())
+}
+
+// Neither rail can be moved first, so of all sets only the empty one can be.
+#[test]
+fn no_order(rt: HostRuntime) -> Result<(), Fail> {
+    let board = tied_board(rt.alloc())?;
+    let mut table = [7; 5];
+    let none = OrderFault::NoOrder;
+    assert!(rt; ordered(&board, mix(0, 0), mix(100, 100), &mut table) == Err(none));
+    assert_eq!(rt; none.number(), 15);
+    assert_eq!(rt; table, [1, 0, 0, 0, 7]);
     Ok(())
 }
