@@ -32,7 +32,7 @@ pub record Ready (m : Model) (first last table : List ℕ) : Type 0 where
   pub few : count (mixes_of m first last) ≤ 16
   pub long : 2 ^ count (mixes_of m first last) ≤ length table
 
--- what each answer says of a platform, a first and a last mix, and the table before and after: each refusal comes exactly on its condition, with none before it
+-- what each answer says, given a platform, both mixes, and the table before and after: each refusal comes exactly on its condition, with none before it
 abbrev pub Ordered : Model → List ℕ → List ℕ → List ℕ → List ℕ → Result Order OrderFault → Type 0
 Ordered m first last old table (Ok order) =
     Ready m first last old × (Finished m.units (mixes_of m first last) old table × SafeOrder m.units (mixes_of m first last) (rails_of order))
