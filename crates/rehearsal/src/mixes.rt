@@ -50,7 +50,7 @@ fn mix_in(
 
 // The first mix alone.
 pub(crate) fn read_first(heap: Global, part: &[u8], platform: &Platform) -> anyhow::Result<Mix> {
-    let lines = rows(heap, part, b"rail,first")?;
+    let lines = rows(heap, part, "rail,first")?;
     mix_in(heap, &lines, platform, 2, 1)
 }
 
@@ -60,7 +60,7 @@ pub(crate) fn read_both(
     part: &[u8],
     platform: &Platform,
 ) -> anyhow::Result<(Mix, Mix)> {
-    let lines = rows(heap, part, b"rail,first,last")?;
+    let lines = rows(heap, part, "rail,first,last")?;
     let first = mix_in(heap, &lines, platform, 3, 1)?;
     let last = mix_in(heap, &lines, platform, 3, 2)?;
     Ok((first, last))

@@ -31,7 +31,7 @@ fn step_of(fields: &[&[u8]]) -> Option<Step> {
 
 // The steps of a script sheet.
 pub(crate) fn read_script(heap: Global, part: &[u8]) -> anyhow::Result<Vec<Step>> {
-    let lines = rows(heap, part, b"step,rail,target")?;
+    let lines = rows(heap, part, "step,rail,target")?;
     let mut script = Vec::new(heap);
     for (above, line) in lines.iter().enumerate() {
         let fields = text::fields(heap, line)?;
