@@ -15,7 +15,7 @@ ghost use Rattle.faults.specs.declared.settle.SettleFault.TheVariants.{NoChoice}
 ghost use Rattle.settling.specs.Settling.{Settles};
 ghost use Rattle.settling.specs.Sums.{draw_toll};
 ghost use Rattle.cases.specs.Board.{small_board};
-ghost use Rattle.cases.specs.Demands.{wanted};
+ghost use Rattle.cases.specs.Demands.{wanted, all_on};
 ghost use Rattle.cases.specs.Sheets.{small_rows};
 ghost use Rattle.cases.specs.Moves.{off, on, supply_between, load_between, switching_on, staying_off, rail_0_first, rail_1_first, both_at_once, idle_wait, mix_on, rail_1_ahead};
 
@@ -41,6 +41,7 @@ pub fn cases_hold()
     ensures first_step { Checked small_board (value_of off) rail_1_first (Err (Unsafe 0 1 rail_1_ahead)) }
     ensures second_step { Checked small_board (value_of off) both_at_once (Err (Unsafe 1 1 rail_1_ahead)) }
     ensures idle_wait { Checked small_board (value_of off) idle_wait (Err (OutOfForm 0)) }
+    ensures highest_that_fits { Settles draw_toll small_board.rails small_board.units (wanted 1950 3465) (Ok all_on) }
     ensures one_too_high { Settles draw_toll small_board.rails small_board.units (wanted 1951 3465) (Err NoChoice) }
 {
     worked_cases();
