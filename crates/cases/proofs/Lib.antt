@@ -4,3 +4,4 @@ pub mod Rests
 pub mod Sheets
 pub mod Orders
 pub mod Scripts
+pub mod Settlings

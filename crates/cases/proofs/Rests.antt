@@ -20,7 +20,7 @@ rests_on = three (λ k. AtRest (unit_at small_board.units k) on)
     (1, ((lit< tt, refl), one _ (lit≤ tt, lit≤ tt)))
 
 -- a mode with kind pass is no rest mode
-no_rest : Kind.Pass ≡ Kind.Rest → ⊥
+pub no_rest : Kind.Pass ≡ Kind.Rest → ⊥
 no_rest e = let z : ◌≡◌ {A = ℕ} 0 1 = cc in omega (arith, z)
 
 pub supply_unrested : LowestUnrested small_board.units supply_between 0

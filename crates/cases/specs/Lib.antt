@@ -1,3 +1,4 @@
 pub mod Board
 pub mod Sheets
 pub mod Moves
+pub mod Demands

@@ -11,7 +11,11 @@ ghost use Rattle.openings.specs.declared.end.End.TheVariants.{First, Last};
 ghost use Rattle.ordering.specs.declared.fault.OrderFault.TheVariants.{Restless, ShortTable};
 ghost use Rattle.ordering.specs.Answers.{Ordered};
 ghost use Rattle.ordering.specs.Sets.{Finished, SafeOrder};
+ghost use Rattle.faults.specs.declared.settle.SettleFault.TheVariants.{NoChoice};
+ghost use Rattle.settling.specs.Settling.{Settles};
+ghost use Rattle.settling.specs.Sums.{draw_toll};
 ghost use Rattle.cases.specs.Board.{small_board};
+ghost use Rattle.cases.specs.Demands.{wanted, all_on};
 ghost use Rattle.cases.specs.Sheets.{small_rows};
 ghost use Rattle.cases.specs.Moves.{off, on, supply_between, load_between, switching_on, staying_off, rail_0_first, rail_1_first, both_at_once, idle_wait, mix_on, rail_1_ahead};
 
@@ -19,7 +23,7 @@ use makes::cases_stand;
 use spans::worked_cases;
 
 // Spans across two modes and over a gap; the answers of a ramp and of a steady layer; and the small board as its sheets have it,
-// with orders and their tables, the refusals of an order, and scripts that pass or do not.
+// with orders and their tables, the refusals of an order, scripts that pass or do not, and what settling answers.
 pub fn cases_hold()
     ensures joined { SafeFor 1 (from_to 0 1650 ∷ []) (two_modes (from_to 0 900) (from_to 901 1950)) }
     ensures gap { BadValues 1 (from_to 0 1650 ∷ []) (two_modes (from_to 0 500) (from_to 900 1950)) (501 ∷ []) }
@@ -37,6 +41,8 @@ pub fn cases_hold()
     ensures first_step { Checked small_board (value_of off) rail_1_first (Err (Unsafe 0 1 rail_1_ahead)) }
     ensures second_step { Checked small_board (value_of off) both_at_once (Err (Unsafe 1 1 rail_1_ahead)) }
     ensures idle_wait { Checked small_board (value_of off) idle_wait (Err (OutOfForm 0)) }
+    ensures highest_that_fits { Settles draw_toll small_board.rails small_board.units (wanted 1950 3465) (Ok all_on) }
+    ensures one_too_high { Settles draw_toll small_board.rails small_board.units (wanted 1951 3465) (Err NoChoice) }
 {
     worked_cases();
     cases_stand();

@@ -1,6 +1,7 @@
 use Rattle.cases.proofs.Sheets.{made}
 use Rattle.cases.proofs.Orders.{order, table, still_order, still_table, no_first, no_last, short}
 use Rattle.cases.proofs.Scripts.{opened, first_step, second_step, idle}
+use Rattle.cases.proofs.Settlings.{highest, one_too_high}
 use Rattle.cases.proofs.table.cases_hold.Goals as goal
 
 pub returns : goal.returns
@@ -21,4 +22,6 @@ returns c = record {
   first_step = first_step;
   second_step = second_step;
   idle_wait = idle;
+  highest_that_fits = highest;
+  one_too_high = one_too_high;
 }
