@@ -66,8 +66,7 @@ hold : Hold (InWindow small_board.units (wanted 1950 3465) all_on.modes) all_on.
 hold zero lt v = (
   λ w.
       let low : 11400 ≤ v = w.0 in
-      let high : v ≤ 12600 = w.1 in
-      (
+      let high : v ≤ 12600 = w.1 in (
         (omega (arith, high), one (Asked 0 v) (λ (e : 1 ≡ 0). absurd (omega (arith, e)))),
         three (Unit1 0 v)
             (one (Pin1 supply 0 v) (λ _. w))
@@ -79,8 +78,7 @@ hold zero lt v = (
 hold (suc zero) lt v = (
   λ w.
       let low : 1950 ≤ v = w.0 in
-      let high : v ≤ 1950 = w.1 in
-      (
+      let high : v ≤ 1950 = w.1 in (
         (omega (arith, high), one (Asked 1 v) (λ _. (low, omega (arith, high)))),
         three (Unit1 1 v)
             (one (Pin1 supply 1 v) (λ (e : 0 ≡ 1). absurd (omega (arith, e))))
@@ -91,8 +89,7 @@ hold (suc zero) lt v = (
 )
 hold (suc (suc r)) lt v = (
   λ w.
-      let wide : Within (from_to 0 65535) v = subst (λ b. Within b v) (far_window r lt) w in
-      (
+      let wide : Within (from_to 0 65535) v = subst (λ b. Within b v) (far_window r lt) w in (
         (wide.1, one (Asked (suc (suc r)) v) (λ (e : 1 ≡ suc (suc r)). absurd (omega (arith, e)))),
         three (Unit1 (suc (suc r)) v)
             (one (Pin1 supply (suc (suc r)) v) (λ (e : 0 ≡ suc (suc r)). absurd (omega (arith, e))))
