@@ -8,8 +8,6 @@ pub mod find;
 pub mod order;
 mod read;
 mod search;
-#[cfg(test)]
-mod tests;
 mod trial;
 
 pub use change::Change;

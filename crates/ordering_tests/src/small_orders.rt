@@ -15,6 +15,17 @@ fn both_up(rt: HostRuntime) -> Result<(), Fail> {
     Ok(())
 }
 
+// Down again rail 1 comes first.
+#[test]
+fn both_down(rt: HostRuntime) -> Result<(), Fail> {
+    let board = small_board(rt.alloc())?;
+    let mut table = [7; 5];
+    let order = ordered(&board, mix(11400, 1650), mix(0, 0), &mut table)?;
+    assert_eq!(rt; order.rails(), [1, 0].as_slice());
+    assert_eq!(rt; table, [1, 0, 1, 1, 7]);
+    Ok(())
+}
+
 // With nothing to move the order is empty, and the empty set can be moved.
 #[test]
 fn nothing_to_move(rt: HostRuntime) -> Result<(), Fail> {
