@@ -50,10 +50,10 @@ pub trait Rail: Copy {
         ensures meaning { RailPolled result.1 (meaning self) (meaning result.0) }
         ensures own { asked result.1 self result.0 };
 
-    // The rail after a poll of another one.
-    fn pass(self) -> Self
-        ensures meaning { RailPassed (meaning self) (meaning result) }
-        ensures own { passed self result };
+    // A poll of another rail.
+    fn pass(&mut self)
+        ensures meaning { RailPassed (meaning self.old) (meaning self.new) }
+        ensures own { passed self.old self.new };
 
     // Its value in mV, and whether it is pending.
     fn look(self) -> (u16, bool)

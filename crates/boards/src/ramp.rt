@@ -7,6 +7,11 @@ use crate::rail::Rail;
 
 pub type RampBench = Bench<RampRail>;
 
+impl Bench<RampRail> {
+    // On the type itself, since the constant of a generic impl stands in no other constant, pattern or length.
+    pub const CEILING: u16 = 65535;
+}
+
 // One rail: its value, its goal while it is pending, and the rate by which a poll moves it, in mV.
 #[derive(Clone, Copy)]
 pub struct RampRail {
@@ -42,7 +47,7 @@ impl Rail for RampRail {
     ghost use Rattle.boards.specs.Ramp.{meaning_of, blank, Rests, Sent, Asked, Moved};
     ghost use Rattle.std.proofs.Common.{rules};
 
-    const CEILING: u16 = 65535;
+    const CEILING: u16 = RampBench::CEILING;
 
     // A rate in mV.
     type Setting = u16;
@@ -86,7 +91,8 @@ impl Rail for RampRail {
     }
 
     fn poll(self) -> (RampRail, bool) {
-        let mut moved = self.pass();
+        let mut moved = self;
+        moved.pass();
         let arrived = moved.value == moved.target();
         if arrived {
             moved.goal = None;
@@ -94,9 +100,8 @@ impl Rail for RampRail {
         (moved, arrived)
     }
 
-    fn pass(mut self) -> RampRail {
+    fn pass(&mut self) {
         self.value = self.stepped();
-        self
     }
 
     fn look(self) -> (u16, bool) {

@@ -7,6 +7,11 @@ use crate::rail::Rail;
 
 pub type RelayBoard = Bench<RelayRail>;
 
+impl Bench<RelayRail> {
+    // On the type itself, since the constant of a generic impl stands in no other constant, pattern or length.
+    pub const CEILING: u16 = 57000;
+}
+
 // Where a pending rail is to be, in mV, and how many no answers are left until it is there.
 #[derive(Clone, Copy)]
 struct Going {
@@ -32,7 +37,7 @@ impl Rail for RelayRail {
     ghost use Rattle.boards.specs.Relay.{meaning_of, blank, Rests, Sent, Asked};
     ghost use Rattle.std.proofs.Common.{rules};
 
-    const CEILING: u16 = 57000;
+    const CEILING: u16 = RelayBoard::CEILING;
 
     // A delay in polls.
     type Setting = u8;
@@ -97,9 +102,8 @@ impl Rail for RelayRail {
         (self, true)
     }
 
-    fn pass(self) -> RelayRail {
-        self
-    }
+    // Nothing, so that a poll is of one rail alone.
+    fn pass(&mut self) {}
 
     fn look(self) -> (u16, bool) {
         (self.value, self.going.is_some())

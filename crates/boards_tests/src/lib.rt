@@ -8,6 +8,13 @@ mod tests {
     use platform::Mix;
     use std::test::Fail;
 
+    // The ceilings as plain constants, which stand in constants, patterns and lengths.
+    const RELAY_TOP: u16 = RelayBoard::CEILING;
+
+    fn is_top(goal: u16) -> bool {
+        matches!(goal, RampBench::CEILING)
+    }
+
     // The same value on every rail.
     fn level(mv: u16) -> Mix {
         Mix { values: [mv; 24] }
@@ -109,7 +116,8 @@ mod tests {
         assert!(rt; board.start(0, 57001) == Err(fault) && board.start(1, 0) == Err(fault));
         assert!(rt; board.poll(1) == Err(fault) && board.look(1) == Err(fault));
         assert!(rt; steady(board, 17).err() == Some(fault));
-        assert!(rt; <Steady<RelayBoard> as Board>::CEILING == 57000);
+        assert!(rt; <Steady<RelayBoard> as Board>::CEILING == 57000 && RELAY_TOP == 57000);
+        assert!(rt; is_top(65535) && !is_top(57000));
         Ok(())
     }
 }

@@ -24,15 +24,21 @@ impl<B: Board> Steady<B> {
         if need == 0 || need > 16 {
             return Err((below, BoardFault::OutOfRange));
         }
-        let run = array::from_fn(|rail| first_run(&below, need, rail as u8));
+        let count = below.count();
+        let run = array::from_fn(|rail| first_run(&below, count, need, rail as u8));
         Ok(Steady { below, need, run })
     }
 }
 
 // The answers that count as run on a rail when a layer is built: none where it is pending below, all on any other.
-fn first_run<B: Board>(below: &B, need: u8, rail: u8) -> u8
+// Only the `count` rails that the board below has are looked at.
+fn first_run<B: Board>(below: &B, count: u8, need: u8, rail: u8) -> u8
+    requires { count ≡ B.Board.rails below.now }
     ensures { rail < B.Board.rails below.now → result ≡ (if B.Board.pending below.now rail then 0 else need) }
 {
+    if rail >= count {
+        return need;
+    }
     match below.look(rail) {
         Ok((_, true)) => 0,
         _ => need,

@@ -26,11 +26,15 @@ pub fn make_call<B: Board>(run: &mut Run, board: &mut B, call: Call) -> Outcome
     }
 }
 
-// A rail's value on a board, 0 past its last rail.
-fn value_on<B: Board>(board: &B, rail: usize) -> u16
-    requires { rail < 24 }
+// A rail's value on a board, 0 past the last of its `count` rails, where nothing is looked at.
+fn value_on<B: Board>(board: &B, count: u8, rail: usize) -> u16
+    requires room { rail < 24 }
+    requires counted { count ≡ B.Board.rails board.now }
     ensures { rail < B.Board.rails board.now → result ≡ B.Board.value board.now rail }
 {
+    if rail >= count as usize {
+        return 0;
+    }
     board.look(rail as u8).map_or(0, |(value, _)| value)
 }
 
@@ -39,6 +43,7 @@ pub(crate) fn note<B: Board>(board: &B, outcome: Outcome) -> Entry
     ensures outcome { result.outcome ≡ outcome }
     ensures shows { Shows B.Board result board.now }
 {
-    let values = array::from_fn(|rail| value_on(board, rail));
+    let count = board.count();
+    let values = array::from_fn(|rail| value_on(board, count, rail));
     Entry { outcome, values }
 }

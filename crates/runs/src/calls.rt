@@ -1,5 +1,5 @@
 // The calls on a run: advance, turn and close.
-ghost use Rattle.std.specs.Prelude.{List};
+ghost use Rattle.std.specs.Prelude.{List, Ok, Err, MatchResult};
 ghost use Rattle.histories.specs.declared.run.Call.TheVariants.{Advance, Turn};
 ghost use Rattle.runs.specs.Faults.{answered, granted};
 ghost use Rattle.runs.specs.Working.{Finds, Ran, Closes};
@@ -10,11 +10,11 @@ use boards::Board;
 use histories::{Answer, RunFault};
 
 impl Run {
-    // What an open run holds, if the board suits it.
-    fn journey_on<B: Board>(&self, board: &B) -> Result<Journey, RunFault>
-        ensures { Finds B.Board self.now board.now result }
+    // What an open run holds, if the board suits it. Working it then goes on in place: a journey is large to copy.
+    fn journey_on<B: Board>(&self, board: &B) -> Result<&Journey, RunFault>
+        ensures { MatchResult result (λ j. Finds B.Board self.now board.now (Ok j.now)) (λ e. Finds B.Board self.now board.now (Err e)) }
     {
-        let journey = self.journey.ok_or(RunFault::NotOpen)?;
+        let journey = self.journey.as_ref().ok_or(RunFault::NotOpen)?;
         if !journey.suited(board) {
             return Err(RunFault::Unsuited);
         }
@@ -25,9 +25,11 @@ impl Run {
     pub fn advance<B: Board>(&mut self, board: &mut B) -> Result<Answer, RunFault>
         ensures { (moments : List B) × Ran B.Board self.old board.old Advance (answered result) moments self.new board.new }
     {
-        let mut journey = self.journey_on(board)?;
+        self.journey_on(board)?;
+        let Some(journey) = self.journey.as_mut() else {
+            unreachable()
+        };
         let answer = journey.work(board);
-        self.journey = Some(journey);
         Ok(answer)
     }
 
@@ -35,9 +37,11 @@ impl Run {
     pub fn turn<B: Board>(&mut self, board: &mut B) -> Result<(), RunFault>
         ensures { (moments : List B) × Ran B.Board self.old board.old Turn (granted result) moments self.new board.new }
     {
-        let mut journey = self.journey_on(board)?;
+        self.journey_on(board)?;
+        let Some(journey) = self.journey.as_mut() else {
+            unreachable()
+        };
         journey.turn_round(board);
-        self.journey = Some(journey);
         Ok(())
     }
 
@@ -45,7 +49,7 @@ impl Run {
     pub fn close(&mut self) -> Result<(), RunFault>
         ensures { Closes self.old result self.new }
     {
-        let journey = self.journey.ok_or(RunFault::NotOpen)?;
+        let journey = self.journey.as_ref().ok_or(RunFault::NotOpen)?;
         if journey.place != 0 && journey.place != journey.script().len() {
             return Err(RunFault::Between);
         }

@@ -1,5 +1,5 @@
 // A bench as a board.
-ghost use Rattle.std.specs.Prelude.{◌≡◌, ℕ, ◌<◌, MatchResult};
+ghost use Rattle.std.specs.Prelude.{◌≡◌, ◌≢◌, ℕ, ◌<◌, length, slice_index_or, MatchResult};
 ghost use Rattle.boards.specs.Faults.{Refused};
 ghost use Rattle.boards.specs.Benches.{row, of_each, BenchStarted, BenchPolled};
 ghost use Rattle.boards.specs.Rails.{RailPassed};
@@ -9,6 +9,17 @@ use crate::bench::Bench;
 use crate::fault::BoardFault;
 use crate::meaning::Board;
 use crate::rail::Rail;
+
+// Each rail passes a poll.
+fn pass_each<R: Rail>(rails: &mut [R])
+    ensures length { length rails.new ≡ length rails.old }
+    ensures own { (i : ℕ) → i < length rails.old → R.passed (slice_index_or rails.old i R.blank) (slice_index_or rails.new i R.blank) }
+    ensures meaning { (i : ℕ) → i < length rails.old → RailPassed (R.meaning (slice_index_or rails.old i R.blank)) (R.meaning (slice_index_or rails.new i R.blank)) }
+{
+    for rail in rails.iter_mut() {
+        rail.pass();
+    }
+}
 
 impl<R: Rail> Bench<R> {
     // Where a rail stands in the row.
@@ -22,15 +33,17 @@ impl<R: Rail> Bench<R> {
         }
     }
 
-    // Every rail passes a poll.
-    fn pass(&mut self)
+    // Every rail of the bench but the one at `at` passes a poll.
+    fn pass(&mut self, at: usize)
+        requires { at < self.old.count }
         ensures count { self.new.count ≡ self.old.count }
-        ensures own { (i : ℕ) → i < 24 → R.passed (row R.blank self.old i) (row R.blank self.new i) }
-        ensures meaning { (i : ℕ) → i < 24 → RailPassed (R.meaning (row R.blank self.old i)) (R.meaning (row R.blank self.new i)) }
+        ensures own { (i : ℕ) → i < self.old.count → i ≢ at → R.passed (row R.blank self.old i) (row R.blank self.new i) }
+        ensures meaning { (i : ℕ) → i < self.old.count → i ≢ at → RailPassed (R.meaning (row R.blank self.old i)) (R.meaning (row R.blank self.new i)) }
     {
-        for rail in self.rails.iter_mut() {
-            *rail = rail.pass();
-        }
+        let count = self.count as usize;
+        let rails = &mut self.rails[..];
+        pass_each(&mut rails[..at]);
+        pass_each(&mut rails[at + 1..count]);
     }
 }
 
@@ -72,7 +85,7 @@ impl<R: Rail> Board for Bench<R> {
     fn poll(&mut self, rail: u8) -> Result<bool, BoardFault> {
         let at = self.place(rail)?;
         let (polled, arrived) = self.rails[at].poll();
-        self.pass();
+        self.pass(at);
         self.rails[at] = polled;
         Ok(arrived)
     }

@@ -1,14 +1,13 @@
+use Rattle.std.proofs.Common.{rules}
 use Rattle.std.proofs.lemmas.Result.{err_from_is_err_and}
 use Rattle.histories.specs.declared.run.Call.TheVariants.{Turn}
 use Rattle.runs.proofs.Outcomes.{on_refused, on_turn}
 use Rattle.runs.proofs.run.Run.turn.Goals as goal
 
-pub returns-in_err-journey : goal.returns-in_err-journey
-returns-in_err-journey g c =
+pub returns-in_err-journey_on : goal.returns-in_err-journey_on
+returns-in_err-journey_on g c =
     let p = err_from_is_err_and c.from_residual.result c.from_residual.ensures.1 in
-    rw (p.1, p.2) (on_refused g.B.Board c.args.self.now c.args.board.now Turn tt c.in_err-journey.field-0.0 c.in_err-journey.ensures)
+    rw (p.1, p.2) (on_refused g.B.Board c.args.self.now c.args.board.now Turn tt c.in_err-journey_on.field-0.0 c.in_err-journey_on.ensures)
 
 pub returns : goal.returns
-returns g c =
-    let now = c.in_ok-journey.ensures in
-    on_turn g.B.Board c.args.self.now c.args.board.now c.in_ok-journey.journey c.turn_round.new.self c.turn_round.new.board now.0 now.1 c.turn_round.ensures
+returns g c = on_turn g.B.Board c.args.self.now c.args.board.now c.in-Some.journey.now c.turn_round.new.self c.turn_round.new.board (search rules) (search rules) c.turn_round.ensures
