@@ -6,6 +6,9 @@ use listings::report_on;
 use sheets::read_demands;
 use std::io::{Read, Write};
 
+// More cases than there are; what follows so many is not shown.
+const MOST: usize = 1000;
+
 fn show(rt: &HostRuntime, name: &[u8], input: &[u8]) -> anyhow::Result<()> {
     rt.stdout().write_all(name)?;
     println!(rt; "")?;
@@ -30,7 +33,10 @@ fn show_long_sheet(rt: &HostRuntime, length: usize) -> anyhow::Result<()> {
 fn main(rt: HostRuntime) -> anyhow::Result<()> {
     let mut all = Vec::new(rt.alloc());
     rt.stdin().read_to_end(&mut all)?;
-    let parts: Vec<&[u8]> = all.split(|b| *b == b'%').collect(rt.alloc())?;
+    let parts: Vec<&[u8]> = all
+        .split(|b| *b == b'%')
+        .take(2 * MOST)
+        .collect(rt.alloc())?;
     for case in parts.chunks_exact(2) {
         show(&rt, case[0], case[1])?;
     }
