@@ -11,7 +11,7 @@ count_end [] e = refl
 count_end (b ∷ []) e = refl
 count_end (b ∷ c ∷ bs) e = count_end (c ∷ bs) e
 
-count_last : (rows : List PinRow) (x : PinRow) → 0 < length rows → x ≡ get_or rows (length rows - 1) x → unit_count rows ≡ x.unit + 1
+pub count_last : (rows : List PinRow) (x : PinRow) → 0 < length rows → x ≡ get_or rows (length rows - 1) x → unit_count rows ≡ x.unit + 1
 count_last rows x some is = ap unit_count (last_ends rows x some is) ∙ count_end (take (length rows - 1) rows) x
 
 -- the count by what `last` gives
