@@ -18,5 +18,7 @@ fn touches(unit: &Unit, rail: usize) -> bool
 pub fn lowest_bad_on(platform: &Platform, rail: usize, spans: &[Bounds; 24]) -> Option<BadUnit>
     ensures { MatchOption result (AllSafeOn (model_of platform.now) rail spans.now) (λ b. LowestBadOn (model_of platform.now) rail spans.now b.unit b.values) }
 {
-    lowest_picked(platform, spans, |unit| touches(unit, rail))
+    // Taken apart, so that an edit of one part is refused for what it says.
+    let BadUnit { unit, values } = lowest_picked(platform, spans, |unit| touches(unit, rail))?;
+    Some(BadUnit { unit, values })
 }
