@@ -1,5 +1,5 @@
 // A bench as a board.
-ghost use Rattle.std.specs.Prelude.{◌≡◌, ◌≢◌, ℕ, ◌<◌, length, slice_index_or, MatchResult};
+ghost use Rattle.std.specs.Prelude.{◌≡◌, ◌≢◌, ℕ, ◌<◌, MatchResult, false};
 ghost use Rattle.boards.specs.Faults.{Refused};
 ghost use Rattle.boards.specs.Benches.{row, of_each, BenchStarted, BenchPolled};
 ghost use Rattle.boards.specs.Rails.{RailPassed};
@@ -10,13 +10,12 @@ use crate::fault::BoardFault;
 use crate::meaning::Board;
 use crate::rail::Rail;
 
-// Each rail passes a poll.
-fn pass_each<R: Rail>(rails: &mut [R])
-    ensures length { length rails.new ≡ length rails.old }
-    ensures own { (i : ℕ) → i < length rails.old → R.passed (slice_index_or rails.old i R.blank) (slice_index_or rails.new i R.blank) }
-    ensures meaning { (i : ℕ) → i < length rails.old → RailPassed (R.meaning (slice_index_or rails.old i R.blank)) (R.meaning (slice_index_or rails.new i R.blank)) }
+// A rail passes a poll, unless it is the one that is polled.
+fn pass_other<R: Rail>(rail: &mut R, polled: bool)
+    ensures own { polled ≡ false → R.passed rail.old rail.new }
+    ensures meaning { polled ≡ false → RailPassed (R.meaning rail.old) (R.meaning rail.new) }
 {
-    for rail in rails.iter_mut() {
+    if !polled {
         rail.pass();
     }
 }
@@ -35,15 +34,13 @@ impl<R: Rail> Bench<R> {
 
     // Every rail of the bench but the one at `at` passes a poll.
     fn pass(&mut self, at: usize)
-        requires { at < self.old.count }
         ensures count { self.new.count ≡ self.old.count }
         ensures own { (i : ℕ) → i < self.old.count → i ≢ at → R.passed (row R.blank self.old i) (row R.blank self.new i) }
         ensures meaning { (i : ℕ) → i < self.old.count → i ≢ at → RailPassed (R.meaning (row R.blank self.old i)) (R.meaning (row R.blank self.new i)) }
     {
-        let count = self.count as usize;
-        let rails = &mut self.rails[..];
-        pass_each(&mut rails[..at]);
-        pass_each(&mut rails[at + 1..count]);
+        for (i, rail) in self.rails[..self.count as usize].iter_mut().enumerate() {
+            pass_other(rail, i == at);
+        }
     }
 }
 
